@@ -1,0 +1,3 @@
+pub mod TokenLaws
+pub mod NameLaws
+pub mod LentLaws

@@ -1,0 +1,18 @@
+use Rattle.tokens.proofs.NameLaws.{letter-low, letter-upper, letter-between, letter-lower}
+use Rattle.tokens.proofs.names.is_letter.Statement.{statement}
+use Rattle.tokens.proofs.names.is_letter.Tie as tie
+
+returns : tie.Need-returns
+returns c = search letter-low
+
+returns-2 : tie.Need-returns-2
+returns-2 c = search letter-upper
+
+returns-3 : tie.Need-returns-3
+returns-3 c = search letter-between
+
+returns-4 : tie.Need-returns-4
+returns-4 c = search letter-lower
+
+pub is-letter-spec : {M : Type 1} → statement M
+is-letter-spec = tie.close (tie.spec returns returns-2 returns-3 returns-4)

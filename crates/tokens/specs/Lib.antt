@@ -1,0 +1,4 @@
+pub mod Token
+pub mod Ident
+pub mod Lent
+pub mod Input

@@ -1,0 +1,90 @@
+// A lent token list: the first record that is no good token (refusal 2).
+use crate::names::spelling;
+use words::word;
+ghost use mathlib.Core.Path.{_≡_};
+ghost use Prim.Native.Nat.{ℕ, _+_, _*_, _≤_, _<_};
+ghost use lib.ListN.{length};
+ghost use Rattle.tokens.specs.Token.{tokenCount};
+ghost use Rattle.tokens.specs.Lent.{ascii, goodSymbol, goodValue, goodWords, goodToken, firstBad};
+
+fn is_ascii(s: &[u8]) -> bool
+    ensures { λ r. ⌜ r ≡ ascii (now (s .entry)) ⌝ }
+{
+    let mut i = 0;
+    while i < s.len() {
+        if 128 <= s[i] {
+            return false;
+        }
+        i += 1;
+    }
+    true
+}
+
+fn is_good_symbol(text: &[u8], range: u64) -> bool
+    ensures { λ r. ⌜ r ≡ goodSymbol (now (text .entry)) range ⌝ }
+{
+    if (text.len() as u64) < range / 4294967296 + range % 4294967296 {
+        return false;
+    }
+    is_ascii(spelling(text, range))
+}
+
+fn is_good_value(text: &[u8], kind: u64, b: u64, c: u64) -> bool
+    ensures { λ r. ⌜ r ≡ goodValue (now (text .entry)) kind b c ⌝ }
+{
+    if kind == 4 {
+        return true;
+    }
+    if c != 0 {
+        return false;
+    }
+    if kind == 3 {
+        return is_good_symbol(text, b);
+    }
+    b == 0
+}
+
+fn is_good_words(text: &[u8], end: u32, a: u64, b: u64, c: u64) -> bool
+    ensures { λ r. ⌜ r ≡ goodWords (now (text .entry)) end a b c ⌝ }
+{
+    let kind = a / 1152921504606846976;
+    if kind == 0 {
+        return false;
+    }
+    if 5 < kind {
+        return false;
+    }
+    if a / 4294967296 % 268435456 != 0 {
+        return false;
+    }
+    if (end as u64) < a % 4294967296 {
+        return false;
+    }
+    is_good_value(text, kind, b, c)
+}
+
+fn is_good(tokens: &[u8], text: &[u8], end: u32, at: usize) -> bool
+    requires { ⌜ at < tokenCount (now tokens) ⌝ }
+    ensures { λ r. ⌜ r ≡ goodToken (now (tokens .entry)) (now (text .entry)) end at ⌝ }
+{
+    let k = at * 24;
+    let a = word(tokens, k);
+    let b = word(tokens, k + 8);
+    let c = word(tokens, k + 16);
+    is_good_words(text, end, a, b, c)
+}
+
+// The index of the first token that is not good, or the number of tokens.
+pub fn first_bad(tokens: &[u8], text: &[u8], end: u32) -> usize
+    ensures { λ r. ⌜ r ≡ firstBad (now (tokens .entry)) (now (text .entry)) end ⌝ }
+{
+    let count = tokens.len() / 24;
+    let mut i = 0;
+    while i < count {
+        if !is_good(tokens, text, end, i) {
+            return i;
+        }
+        i += 1;
+    }
+    i
+}

@@ -1,0 +1,105 @@
+// Token records: one read by value, its tests, the judgement of a whole lent list; identifiers.
+pub mod names;
+pub mod lent;
+use names::first_byte;
+use names::spelling;
+use words::same;
+use words::word;
+ghost use mathlib.Core.Path.{_≡_};
+ghost use Prim.Native.Nat.{ℕ, _+_, _≤_, _<_};
+ghost use lib.ListN.{length};
+ghost use Rattle.tokens.specs.Token.{tokenCount, tokenAt, isLparen, isRparen, isSymbol, isInt, isAt, isConst, isWord};
+
+// A token by value, as the Rust's lookahead. Past the last token the kind is NONE and the position that of the end.
+pub struct Token {
+    pub kind: u8,
+    pub pos: u32,
+    pub word1: u64,
+    pub word2: u64,
+}
+
+impl Token {
+    // The bytes of a token record, and the kinds (document 01, 'Token records').
+    pub const WIDTH: usize = 24;
+    pub const NONE: u8 = 0;
+    pub const LPAREN: u8 = 1;
+    pub const RPAREN: u8 = 2;
+    pub const SYMBOL: u8 = 3;
+    pub const INT: u8 = 4;
+    pub const AT: u8 = 5;
+
+    pub fn is_lparen(self) -> bool
+        ensures { λ r. ⌜ r ≡ isLparen self ⌝ }
+    {
+        self.kind == Token::LPAREN
+    }
+
+    pub fn is_rparen(self) -> bool
+        ensures { λ r. ⌜ r ≡ isRparen self ⌝ }
+    {
+        self.kind == Token::RPAREN
+    }
+
+    pub fn is_symbol(self) -> bool
+        ensures { λ r. ⌜ r ≡ isSymbol self ⌝ }
+    {
+        self.kind == Token::SYMBOL
+    }
+
+    pub fn is_int(self) -> bool
+        ensures { λ r. ⌜ r ≡ isInt self ⌝ }
+    {
+        self.kind == Token::INT
+    }
+
+    pub fn is_at(self) -> bool
+        ensures { λ r. ⌜ r ≡ isAt self ⌝ }
+    {
+        self.kind == Token::AT
+    }
+
+    // Whether the token is a symbol that starts with `$`.
+    pub fn is_const(self, text: &[u8]) -> bool
+        ensures { λ r. ⌜ r ≡ isConst (now (text .entry)) self ⌝ }
+    {
+        if self.kind == Token::SYMBOL {
+            first_byte(spelling(text, self.word1)) == b'$'
+        } else {
+            false
+        }
+    }
+
+    // Whether the token is the symbol w.
+    pub fn is_word(self, text: &[u8], w: &[u8]) -> bool
+        ensures { λ r. ⌜ r ≡ isWord (now (text .entry)) (now (w .entry)) self ⌝ }
+    {
+        if self.kind == Token::SYMBOL {
+            same(spelling(text, self.word1), w)
+        } else {
+            false
+        }
+    }
+}
+
+// The token at an index, or what stands past the last one.
+pub fn peek(tokens: &[u8], end: u32, at: usize) -> Token
+    ensures { λ r. ⌜ r ≡ tokenAt (now (tokens .entry)) end at ⌝ }
+{
+    if at < tokens.len() / Token::WIDTH {
+        let k = at * Token::WIDTH;
+        let first = word(tokens, k);
+        Token {
+            kind: (first / 1152921504606846976) as u8,
+            pos: (first % 4294967296) as u32,
+            word1: word(tokens, k + 8),
+            word2: word(tokens, k + 16),
+        }
+    } else {
+        Token {
+            kind: Token::NONE,
+            pos: end,
+            word1: 0,
+            word2: 0,
+        }
+    }
+}
