@@ -6,7 +6,8 @@ use native.Mathlib.Omega.{arith}
 use native.Mathlib.Nat.{zero-add, suc-add}
 use lib.ListN.{length, length-append}
 use Rattle.trees.specs.declared.Rec.{Rec}
-use Rattle.trees.specs.Tree.{Head, Tree, Trees, node, ∅, _▸_, count, _⧺_, firsts, others, recordOf, headOf, records, recordsAll, treesOf}
+use Rattle.trees.specs.declared.Head.{Head}
+use Rattle.trees.specs.Tree.{Tree, Trees, node, ∅, _▸_, count, _⧺_, firsts, others, recordOf, headOf, records, recordsAll, treesOf}
 
 -- ---- rows
 

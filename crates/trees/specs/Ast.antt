@@ -3,7 +3,8 @@
 -- A name is the range of the text that it stands in, start * 2^32 + length; where the Rust has no `pos`, it is 0.
 use Prim.Native.Nat.{ℕ, _+_, _*_}
 use mathlib.Core.Bool.{Bool, true, false}
-use Rattle.trees.specs.Tree.{Tree, Trees, node, ∅, _▸_, _⧺_, head, Head}
+use Rattle.trees.specs.Tree.{Tree, Trees, node, ∅, _▸_, _⧺_, head}
+use Rattle.trees.specs.declared.Head.{Head}
 
 -- a flag's bit where it is set
 abbrev pub flag : Bool → ℕ → ℕ
