@@ -1,0 +1,4 @@
+pub mod StepLaws
+pub mod MetLaws
+pub mod SizeLaws
+pub mod RowLaws

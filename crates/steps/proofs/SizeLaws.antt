@@ -1,0 +1,235 @@
+-- How far a part reads and how many records it makes: at most three for each token. Assumes nothing.
+use Prim.Native.Nat.{ℕ, zero, suc, _+_, _-_, _*_, _<_, _≤_}
+use native.Mathlib.Omega.{arith}
+use mathlib.Core.Path.{_≡_, refl, sym, ap, subst, _∙_}
+use mathlib.Core.List.{List, []}
+use mathlib.Core.Bool.{Bool, true, false}
+use lib.ListN.{length}
+use lib.Dec.{eqb}
+use borrow.Author.Tests.{eqb-true}
+use Rattle.trees.specs.Choice.{pick, choose}
+use Rattle.trees.specs.Tree.{Tree, Trees, node, ∅, _▸_, _⧺_, count, head, recordsAll}
+use Rattle.trees.specs.declared.Head.{Head}
+use Rattle.trees.specs.Ast.{Ident}
+use Rattle.trees.specs.Names.{spelled}
+use Rattle.trees.proofs.Laws.{size-none, size-one, size-node, size-⧺, count-none, count-one, count-⧺}
+use Rattle.tokens.specs.declared.Token.{Token}
+use Rattle.tokens.specs.Token.{tokenCount, tokenAt, isLparen, isRparen, isSymbol, isInt, isAt, isConst, isWord}
+use Rattle.tokens.specs.Ident.{identRefusal}
+use Rattle.tokens.specs.Input.{Input, input, peek, size}
+use Rattle.tokens.proofs.TokenLaws.{kind-inside, word-kind, const-kind}
+use Rattle.steps.specs.declared.Refusal.{Refusal}
+use Rattle.steps.specs.declared.Parsed.{Parsed}
+use Rattle.steps.specs.declared.Parsed.the-variants.{Accepted, Refused}
+use Rattle.steps.specs.Outcome.{Outcome, accept, refuse, begin, before, _⊳_, nodeOf, refusal, unexpected, expectAt, expect-lparen, expect-rparen, identAt, nameBy, parseIdent, constRefusal, parseConst}
+use Rattle.steps.specs.Met.{Taken, Met, Chained, ChainedAt, movedTo, moved, At, Ready, Small}
+use Rattle.steps.proofs.MetLaws.{plain-at, token}
+
+-- the row ts, read from token i to j: at least u tokens, and 3 records for each of them with c to spare and d too many at most
+pub record Fit (u c d : ℕ) (s : Input) (i : ℕ) (ts : Trees) (j : ℕ) : Type 0 where
+  pub on : i + u ≤ j
+  pub inside : i ≤ size s → j ≤ size s
+  pub room : length (recordsAll ts) + 3 * i + c ≤ 3 * j + d
+  pub kids : count ts + i ≤ j + d
+
+-- the same of an outcome, where it is an acceptance
+pub record Sized (u c d : ℕ) (s : Input) (i : ℕ) (o : Outcome) : Type 0 where
+  pub fit : (ts : Trees) (j : ℕ) → o ≡ accept ts j → Fit u c d s i ts j
+
+-- and of a function at every token
+pub record BoundedAt (u c d : ℕ) (s : Input) (f : ℕ → ℕ → Outcome) : Type 0 where
+  pub sized : (k i : ℕ) → Sized u c d s i (f k i)
+
+pub record Bounded (u c d : ℕ) (s : Input) (f : ℕ → Outcome) : Type 0 where
+  pub sized : (i : ℕ) → Sized u c d s i (f i)
+
+pub plain-bounded : (u c d : ℕ) (s : Input) (f : ℕ → Outcome) → Bounded u c d s f → BoundedAt u c d s (λ _. f)
+plain-bounded u c d s f h = record { sized = λ k i. h .sized i }
+
+clash : (e : Refusal) (ts : Trees) (j : ℕ) → refuse e ≡ accept ts j → ⊥
+clash e ts j h = let z : _≡_ {A = ℕ} 0 1 = cc in omega arith
+
+pub sized-refuse : (u c d : ℕ) (s : Input) (i : ℕ) (e : Refusal) → Sized u c d s i (refuse e)
+sized-refuse u c d s i e = record { fit = λ ts j h. absurd (clash e ts j h) }
+
+pub sized-accept : (u c d : ℕ) (s : Input) (i : ℕ) (us : Trees) (m : ℕ) → Fit u c d s i us m → Sized u c d s i (accept us m)
+sized-accept u c d s i us m h =
+    record { fit = λ ts j e. let a : us ≡ ts = cc in let b : m ≡ j = cc in subst (λ (x : Trees). Fit u c d s i x j) a (subst (λ (x : ℕ). Fit u c d s i us x) b h) }
+
+pub sized-begin : (s : Input) (i : ℕ) → Sized 0 0 0 s i (begin i)
+sized-begin s i = sized-accept 0 0 0 s i ∅ i (record { on = omega arith; inside = λ h. h; room = omega (arith, size-none); kids = omega (arith, count-none) })
+
+-- a weaker bound
+pub sized-less : (u c d u′ c′ d′ : ℕ) (s : Input) (i : ℕ) (o : Outcome) → u′ ≤ u → c′ + d ≤ c + d′ → d ≤ d′ → Sized u c d s i o → Sized u′ c′ d′ s i o
+sized-less u c d u′ c′ d′ s i o p q r h =
+    record { fit = λ ts j e. let f = h .fit ts j e in record { on = omega (arith, f .on); inside = f .inside; room = omega (arith, f .room); kids = omega (arith, f .kids) } }
+
+-- one part after another
+module _ (u c d u′ c′ d′ : ℕ) (s : Input) (i : ℕ) where
+  after : (ts : Trees) (m : ℕ) (o : Outcome) → Fit u c d s i ts m → Sized u′ c′ d′ s m o → Sized (u + u′) (c + c′) (d + d′) s i (before ts o)
+  unfolding before
+  after ts m (accept us j) g h =
+      let f = h .fit us j refl in
+      sized-accept (u + u′) (c + c′) (d + d′) s i (ts ⧺ us) j
+      (record {
+        on = omega (arith, f .on, g .on);
+        inside = λ z. f .inside (g .inside z);
+        room = omega (arith, f .room, g .room, size-⧺ ts us);
+        kids = omega (arith, f .kids, g .kids, count-⧺ ts us);
+      })
+  after ts m (refuse e) g h = sized-refuse (u + u′) (c + c′) (d + d′) s i e
+
+  pub sized-then : (o : Outcome) (f : ℕ → Outcome) → Sized u c d s i o → Bounded u′ c′ d′ s f → Sized (u + u′) (c + c′) (d + d′) s i (o ⊳ f)
+  unfolding _⊳_
+  sized-then (accept ts m) f h g = after ts m (f m) (h .fit ts m refl) (g .sized m)
+  sized-then (refuse e) f h g = sized-refuse (u + u′) (c + c′) (d + d′) s i e
+
+-- a node takes one record more
+pub sized-node : (u c d u′ c′ d′ : ℕ) (s : Input) (i : ℕ) (h : Head) (o : Outcome) → u′ ≤ u → c′ + 1 + d ≤ c + d′ → 1 ≤ u + d′ → Sized u c d s i o → Sized u′ c′ d′ s i (nodeOf h o)
+unfolding nodeOf
+sized-node u c d u′ c′ d′ s i h (accept ts j) p q r g =
+    let f = g .fit ts j refl in
+    sized-accept u′ c′ d′ s i (node h ts ▸ ∅) j
+    (record {
+      on = omega (arith, f .on);
+      inside = f .inside;
+      room = omega (arith, f .room, size-one (node h ts), size-node h ts);
+      kids = omega (arith, f .on, count-one (node h ts));
+    })
+sized-node u c d u′ c′ d′ s i h (refuse e) p q r g = sized-refuse u′ c′ d′ s i e
+
+-- a choice, where each branch may use its test
+pub sized-choose : (u c d : ℕ) (s : Input) (i : ℕ) (b : Bool) (f g : Unit {0} → Outcome) → (b ≡ true → Sized u c d s i (f tt)) → (b ≡ false → Sized u c d s i (g tt)) → Sized u c d s i (choose b f g)
+sized-choose u c d s i true f g p q = p refl
+sized-choose u c d s i false f g p q = q refl
+
+-- the token i is there
+pub there : (s : Input) (i k : ℕ) → peek s i .kind ≡ k → 0 < k → i < size s
+there s i k e h = kind-inside (s .tokens) (s .end) i k e h
+
+pub record Kinded (test : Token → Bool) : Type 0 where
+  pub kind : ℕ
+  pub positive : 0 < kind
+  pub is : (t : Token) → test t ≡ true → t .kind ≡ kind
+
+pub lparen-kinded : Kinded isLparen
+unfolding isLparen
+lparen-kinded = record { kind = 1; positive = omega arith; is = λ t e. eqb-true (t .kind) 1 e }
+
+pub rparen-kinded : Kinded isRparen
+unfolding isRparen
+rparen-kinded = record { kind = 2; positive = omega arith; is = λ t e. eqb-true (t .kind) 2 e }
+
+pub symbol-kinded : Kinded isSymbol
+unfolding isSymbol
+symbol-kinded = record { kind = 3; positive = omega arith; is = λ t e. eqb-true (t .kind) 3 e }
+
+pub int-kinded : Kinded isInt
+unfolding isInt
+int-kinded = record { kind = 4; positive = omega arith; is = λ t e. eqb-true (t .kind) 4 e }
+
+pub at-kinded : Kinded isAt
+unfolding isAt
+at-kinded = record { kind = 5; positive = omega arith; is = λ t e. eqb-true (t .kind) 5 e }
+
+pub const-kinded : (text : List ℕ) → Kinded (isConst text)
+const-kinded text = record { kind = 3; positive = omega arith; is = const-kind text }
+
+pub word-kinded : (text w : List ℕ) → Kinded (isWord text w)
+word-kinded text w = record { kind = 3; positive = omega arith; is = word-kind text w }
+
+pub met-there : (s : Input) (i : ℕ) (test : Token → Bool) → Kinded test → test (peek s i) ≡ true → i < size s
+met-there s i test k e = there s i (k .kind) (k .is (peek s i) e) (k .positive)
+
+-- one token
+pub sized-token : (s : Input) (i : ℕ) → i < size s → Sized 1 3 0 s i (begin (i + 1))
+sized-token s i h = sized-accept 1 3 0 s i ∅ (i + 1) (record { on = omega arith; inside = λ z. omega arith; room = omega (arith, size-none); kids = omega (arith, count-none) })
+
+pub expect-bounded : (s : Input) (test : Token → Bool) → Kinded test → Bounded 1 3 0 s (expectAt (s .tokens) (s .end) test)
+unfolding expectAt
+expect-bounded s test k =
+    record { sized = λ i. sized-choose 1 3 0 s i (test (peek s i)) (λ _. begin (i + 1)) (λ _. refuse (unexpected (peek s i) i)) (λ e. sized-token s i (met-there s i test k e)) (λ e. sized-refuse 1 3 0 s i (unexpected (peek s i) i)) }
+
+pub lparen-bounded : (s : Input) → Bounded 1 3 0 s (expect-lparen s)
+lparen-bounded s = expect-bounded s isLparen lparen-kinded
+
+pub rparen-bounded : (s : Input) → Bounded 1 3 0 s (expect-rparen s)
+rparen-bounded s = expect-bounded s isRparen rparen-kinded
+
+-- one name
+one-name : (s : Input) (i : ℕ) (t : Token) (range c : ℕ) → i < size s → Sized 1 2 0 s i (identAt t range c i)
+unfolding identAt
+one-name s i t range c h = go (eqb c 0)
+  where
+    go : (b : Bool) → Sized 1 2 0 s i (pick b (accept (Ident (t .pos) range ▸ ∅) (i + 1)) (refuse (refusal c (t .pos) (i + 1))))
+    go true =
+        sized-accept 1 2 0 s i (Ident (t .pos) range ▸ ∅) (i + 1)
+        (record {
+          on = omega arith;
+          inside = λ z. omega arith;
+          room = omega (arith, size-one (Ident (t .pos) range), size-node (head 24 0 (t .pos) range 0) ∅, size-none);
+          kids = omega (arith, count-one (Ident (t .pos) range));
+        })
+    go false = sized-refuse 1 2 0 s i (refusal c (t .pos) (i + 1))
+
+pub name-sized : (s : Input) (judge : List ℕ → ℕ) (range : ℕ → ℕ) (i : ℕ) → Sized 1 2 0 s i (nameBy s judge range i)
+unfolding nameBy
+name-sized s judge range i =
+    sized-choose 1 2 0 s i (isSymbol (peek s i))
+    (λ _. identAt (peek s i) (range (peek s i .word1)) (judge (spelled (s .text) (peek s i .word1))) i)
+    (λ _. refuse (unexpected (peek s i) i))
+    (λ e. one-name s i (peek s i) (range (peek s i .word1)) (judge (spelled (s .text) (peek s i .word1))) (met-there s i isSymbol symbol-kinded e))
+    (λ e. sized-refuse 1 2 0 s i (unexpected (peek s i) i))
+
+pub ident-bounded : (s : Input) → Bounded 1 2 0 s (parseIdent s)
+unfolding parseIdent
+ident-bounded s = record { sized = name-sized s identRefusal (λ w. w) }
+
+pub const-bounded : (s : Input) → Bounded 1 2 0 s (parseConst s)
+unfolding parseConst
+const-bounded s = record { sized = name-sized s constRefusal (λ w. w + 4294967295) }
+
+-- ---- states
+
+-- the first state of a node's children
+pub ready-begun : (c c′ : ℕ) → c + 1 ≤ c′ → c′ ≤ 16 → (s : Input) (p : Parsed) (i n k : ℕ) → Ready c s p → p ≡ Accepted i n k → Ready c′ s (Accepted i (n + 1) 0)
+unfolding Ready
+ready-begun c c′ x y s p i n k h e =
+    let a = subst (λ (z : Parsed). Ready c s z) e h in
+    record { few = a .few; short = a .short; here = a .here; room = omega (arith, a .room); kids = omega arith; slack = y }
+
+ready-met : (c u b : ℕ) (s : Input) (i n k : ℕ) (o : Outcome) (l l′ : List ℕ) (r : Parsed) → Sized u b 0 s i o → At c s i n k → Met o n k l l′ r → Ready c s r
+unfolding Met Ready
+ready-met c u b s i n k (accept ts j) l l′ (Accepted x m w) z a h =
+    let f = z .fit ts j refl in
+    record {
+      few = a .few;
+      short = a .short;
+      here = omega (arith, h .ends, f .inside (a .here));
+      room = omega (arith, h .ends, h .counted, f .room, a .room);
+      kids = omega (arith, h .ends, h .rows, f .kids, a .kids);
+      slack = a .slack;
+    }
+ready-met c u b s i n k (accept ts j) l l′ (Refused d) z a h = absurd h
+ready-met c u b s i n k (refuse e) l l′ (Accepted x m w) z a h = absurd h
+ready-met c u b s i n k (refuse e) l l′ (Refused d) z a h = tt
+
+pub ready-after : (f : ℕ → Outcome) (q : Parsed) (l l′ : List ℕ) (r : Parsed) (c u b : ℕ) (s : Input) → Chained f q l l′ r → Bounded u b 0 s f → Ready c s q → Ready c s r
+unfolding Chained Ready
+ready-after f (Accepted i n k) l l′ r c u b s h g a = ready-met c u b s i n k (f i) l l′ r (g .sized i) a h
+ready-after f (Refused e) l l′ r c u b s h g a = rw h tt
+
+pub ready-after-at : (f : ℕ → ℕ → Outcome) (q : Parsed) (l l′ : List ℕ) (r : Parsed) (c u b : ℕ) (s : Input) → ChainedAt f q l l′ r → BoundedAt u b 0 s f → Ready c s q → Ready c s r
+unfolding ChainedAt Ready
+ready-after-at f (Accepted i n k) l l′ r c u b s h g a = ready-met c u b s i n k (f k i) l l′ r (g .sized k i) a h
+ready-after-at f (Refused e) l l′ r c u b s h g a = rw h tt
+
+pub ready-token : (tokens text : List ℕ) (end : ℕ) (test : Token → Bool) (q r : Parsed) (c : ℕ) → r ≡ moved (expectAt tokens end test) q → Kinded test → Ready c (input tokens text end) q → Ready c (input tokens text end) r
+ready-token tokens text end test q r c e k a =
+    let s = input tokens text end in
+    ready-after (expectAt tokens end test) q [] [] r c 1 3 s (token tokens end test q r [] e) (expect-bounded s test k) a
+
+pub small-ready : (c : ℕ) (s : Input) (q : Parsed) → Ready c s q → Small q
+unfolding Ready Small
+small-ready c s (Accepted i n k) a = omega (arith, a .few, a .here, a .kids, a .slack)
+small-ready c s (Refused e) a = tt

@@ -1,0 +1,23 @@
+use Rattle.steps.proofs.StepLaws.{const-bad, const-dollar, const-plain}
+use borrow.Author.Needs.{needs}
+use Rattle.steps.proofs.const_refusal.Statement.{statement}
+use Rattle.steps.proofs.const_refusal.Tie as tie
+
+ident-refusal-requires : tie.Need-ident-refusal-requires
+ident-refusal-requires c κs = search needs
+
+returns : tie.Need-returns
+returns c = search const-bad
+
+first-byte-requires : tie.Need-first-byte-requires
+first-byte-requires c κs = search needs
+
+returns-2 : tie.Need-returns-2
+returns-2 c = search const-dollar
+
+returns-3 : tie.Need-returns-3
+returns-3 c = search const-plain
+
+pub const-refusal-spec : {M : Type 1} → statement M
+const-refusal-spec =
+    tie.close (tie.spec ident-refusal-requires returns first-byte-requires returns-2 returns-3)

@@ -1,0 +1,86 @@
+-- What the parse functions promise of the state that they return and of the output.
+use Prim.Native.Nat.{ℕ, _+_, _*_, _≤_, _<_}
+use mathlib.Core.Path.{_≡_}
+use mathlib.Core.List.{List}
+use mathlib.Core.Bool.{Bool, true, false, not}
+use lib.ListN.{length}
+use Rattle.trees.specs.Tree.{Tree, Trees, count, recordOf, recordsAll}
+use Rattle.trees.specs.declared.Head.{Head}
+use Rattle.records.specs.Slots.{put, writes}
+use Rattle.tokens.specs.Token.{tokenAt, isRparen}
+use Rattle.tokens.specs.Input.{Input, size}
+use Rattle.steps.specs.declared.Refusal.{Refusal}
+use Rattle.steps.specs.declared.Parsed.{Parsed}
+use Rattle.steps.specs.declared.Parsed.the-variants.{Accepted, Refused}
+use Rattle.steps.specs.Outcome.{Outcome, accept, refuse}
+
+-- the row ts, read up to token j, stands in the output from slot n on, after k trees of its row
+pub record Taken (ts : Trees) (j n k : ℕ) (l l′ : List ℕ) (next slot items : ℕ) : Type 0 where
+  pub ends : next ≡ j
+  pub counted : slot ≡ n + length (recordsAll ts)
+  pub rows : items ≡ k + count ts
+  pub wrote : l′ ≡ writes l n (recordsAll ts)
+
+-- r is the state that the outcome makes of a state at slot n with k trees in its row, and l′ the output that it makes of l
+unfoldable pub Met : Outcome → ℕ → ℕ → List ℕ → List ℕ → Parsed → Type 0
+Met (accept ts j) n k l l′ (Accepted next slot items) = Taken ts j n k l l′ next slot items
+Met (accept ts j) n k l l′ (Refused d) = ⊥
+Met (refuse e) n k l l′ (Accepted next slot items) = ⊥
+Met (refuse e) n k l l′ (Refused d) = d ≡ e
+
+-- r is what reading f at the state p gives: a refusal stays as it is
+unfoldable pub Chained : (ℕ → Outcome) → Parsed → List ℕ → List ℕ → Parsed → Type 0
+Chained f (Accepted i n k) l l′ r = Met (f i) n k l l′ r
+Chained f (Refused e) l l′ r = r ≡ Refused e
+
+-- the same of an f that also takes how many trees stand in the row
+unfoldable pub ChainedAt : (ℕ → ℕ → Outcome) → Parsed → List ℕ → List ℕ → Parsed → Type 0
+ChainedAt f (Accepted i n k) l l′ r = Met (f k i) n k l l′ r
+ChainedAt f (Refused e) l l′ r = r ≡ Refused e
+
+-- the same of an f that reads no tree and so touches no output
+unfoldable pub movedTo : ℕ → ℕ → Outcome → Parsed
+movedTo n k (accept ts j) = Accepted j n k
+movedTo n k (refuse e) = Refused e
+
+unfoldable pub moved : (ℕ → Outcome) → Parsed → Parsed
+moved f (Accepted i n k) = movedTo n k (f i)
+moved f (Refused e) = Refused e
+
+-- a node closed at slot n, after k trees of its row, over the children that q has read
+unfoldable pub Closed : Head → ℕ → ℕ → Parsed → List ℕ → List ℕ → Parsed → Type 0
+Closed h n k (Accepted j m c) l l′ r = (r ≡ Accepted j m (k + 1)) × (l′ ≡ put l n (recordOf h c))
+Closed h n k (Refused e) l l′ r = r ≡ Refused e
+
+-- whether a row goes on: nothing is refused, and the test says no stop
+unfoldable pub goesOn : (ℕ → Bool) → Parsed → Bool
+goesOn stop (Accepted i n k) = not (stop i)
+goesOn stop (Refused e) = false
+
+-- a row ends at a `)`
+abbrev pub endsAt : List ℕ → ℕ → ℕ → Bool
+endsAt tokens end i = isRparen (tokenAt tokens end i)
+
+-- what a parse function may count on: the limits of document 01, and at most three records and one tree for each token, c more allowed
+pub record At (c : ℕ) (s : Input) (i n k : ℕ) : Type 0 where
+  pub few : size s ≤ 16384
+  pub short : length (s .text) ≤ 65536
+  pub here : i ≤ size s
+  pub room : n ≤ 3 * i + c
+  pub kids : k ≤ i + c
+  pub slack : c ≤ 16
+
+unfoldable pub Ready : ℕ → Input → Parsed → Type 0
+Ready c s (Accepted i n k) = At c s i n k
+Ready c s (Refused e) = Unit {0}
+
+-- a row that a record's child count holds
+unfoldable pub Small : Parsed → Type 0
+Small (Accepted i n k) = k < 65536
+Small (Refused e) = Unit {0}
+
+-- numbers that may be counted on
+pub record Below (i n k : ℕ) : Type 0 where
+  pub at : i < 4294967296
+  pub slot : n < 4294967296
+  pub row : k < 4294967296
