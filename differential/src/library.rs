@@ -1,0 +1,146 @@
+//! The C interface of the library, as include/isle.h declares it. The entries on record lists
+//! are there only when the library has them.
+
+#[link(name = "isle", kind = "static")]
+unsafe extern "C" {
+    fn isle_read(
+        tokens: *const u8,
+        tokens_length: usize,
+        text: *const u8,
+        text_length: usize,
+        end: u32,
+        out: *mut u8,
+        out_length: usize,
+    ) -> u64;
+}
+
+// In each call every pointer stands beside its slice's length, and no output overlaps an input.
+
+pub fn read(tokens: &[u8], text: &[u8], end: u32, out: &mut [u8]) -> u64 {
+    unsafe {
+        isle_read(
+            tokens.as_ptr(),
+            tokens.len(),
+            text.as_ptr(),
+            text.len(),
+            end,
+            out.as_mut_ptr(),
+            out.len(),
+        )
+    }
+}
+
+#[cfg(has_templates)]
+mod templates {
+    use differential::steps::Lists;
+
+    type Entry = unsafe extern "C" fn(
+        *const u8,
+        usize,
+        *const u8,
+        usize,
+        *const u8,
+        usize,
+        *mut u8,
+        usize,
+    ) -> u64;
+
+    unsafe extern "C" {
+        fn isle_make_template(
+            text: *const u8,
+            text_length: usize,
+            pattern: *const u8,
+            pattern_length: usize,
+            params: *const u8,
+            params_length: usize,
+            out: *mut u8,
+            out_length: usize,
+        ) -> u64;
+        fn isle_substitute(
+            text: *const u8,
+            text_length: usize,
+            template: *const u8,
+            template_length: usize,
+            patterns: *const u8,
+            patterns_length: usize,
+            out: *mut u8,
+            out_length: usize,
+        ) -> u64;
+    }
+
+    fn call(entry: Entry, lists: &Lists, out: &mut [u8]) -> u64 {
+        let Lists {
+            text,
+            first,
+            second,
+        } = lists;
+        unsafe {
+            entry(
+                text.as_ptr(),
+                text.len(),
+                first.as_ptr(),
+                first.len(),
+                second.as_ptr(),
+                second.len(),
+                out.as_mut_ptr(),
+                out.len(),
+            )
+        }
+    }
+
+    pub fn make_template(lists: &Lists, out: &mut [u8]) -> u64 {
+        call(isle_make_template, lists, out)
+    }
+
+    pub fn substitute(lists: &Lists, out: &mut [u8]) -> u64 {
+        call(isle_substitute, lists, out)
+    }
+}
+
+#[cfg(has_templates)]
+pub use templates::*;
+
+#[cfg(has_opening)]
+mod opening {
+    use differential::steps::Lists;
+
+    unsafe extern "C" {
+        fn isle_open(
+            text: *const u8,
+            text_length: usize,
+            defs: *const u8,
+            defs_length: usize,
+            pattern: *const u8,
+            pattern_length: usize,
+            store: *mut u8,
+            store_length: usize,
+            out: *mut u8,
+            out_length: usize,
+        ) -> u64;
+    }
+
+    pub fn open(lists: &Lists, store: &mut [u8], out: &mut [u8]) -> u64 {
+        let Lists {
+            text,
+            first,
+            second,
+        } = lists;
+        unsafe {
+            isle_open(
+                text.as_ptr(),
+                text.len(),
+                first.as_ptr(),
+                first.len(),
+                second.as_ptr(),
+                second.len(),
+                store.as_mut_ptr(),
+                store.len(),
+                out.as_mut_ptr(),
+                out.len(),
+            )
+        }
+    }
+}
+
+#[cfg(has_opening)]
+pub use opening::*;

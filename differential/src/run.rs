@@ -1,0 +1,86 @@
+//! Compares the library with the crate and the model. Usage: run [COUNT] [SEED]
+
+mod library;
+mod limits;
+mod reading;
+#[cfg(any(has_templates, has_opening))]
+mod run_lists;
+#[cfg(has_opening)]
+mod run_opening;
+#[cfg(has_templates)]
+mod run_templates;
+
+use differential::generate::Random;
+use std::collections::BTreeMap;
+use std::process::ExitCode;
+
+const COUNT: u64 = 240_000;
+const SEED: u64 = 0x1517_0002;
+/// The crate has no limit on depth, and its parser is recursive.
+const STACK: usize = 1 << 28;
+
+/// How many inputs and calls were compared, and the calls by refusal number.
+#[derive(Default)]
+pub struct Counts {
+    inputs: usize,
+    calls: usize,
+    by_number: BTreeMap<u8, usize>,
+}
+
+impl Counts {
+    pub fn add_call(&mut self, result: u64) {
+        self.calls += 1;
+        *self.by_number.entry((result >> 56) as u8).or_default() += 1;
+    }
+
+    fn line(&self, name: &str) -> String {
+        let numbers: Vec<String> = self
+            .by_number
+            .iter()
+            .map(|(n, c)| format!("{n}: {c}"))
+            .collect();
+        format!(
+            "{name}: {} inputs, {} calls compared, 0 differ; calls by refusal: {}",
+            self.inputs,
+            self.calls,
+            numbers.join(", ")
+        )
+    }
+}
+
+fn main() -> ExitCode {
+    let thread = std::thread::Builder::new().stack_size(STACK).spawn(compare);
+    match thread.expect("a thread").join().expect("no panic") {
+        Ok(()) => ExitCode::SUCCESS,
+        Err(difference) => {
+            println!("{difference}");
+            ExitCode::FAILURE
+        }
+    }
+}
+
+fn compare() -> Result<(), String> {
+    let count = argument(1, COUNT)?;
+    let mut random = Random::new(argument(2, SEED)?);
+    let mut counts = Counts::default();
+    for _ in 0..count {
+        reading::compare(&mut random, &mut counts)?;
+    }
+    limits::compare(&mut counts)?;
+    println!("{}", counts.line("isle_read"));
+    #[cfg(has_templates)]
+    for line in run_templates::compare(&mut random, count / 4)? {
+        println!("{line}");
+    }
+    #[cfg(has_opening)]
+    println!("{}", run_opening::compare(&mut random, count / 4)?);
+    Ok(())
+}
+
+/// The number given as an argument, or another.
+fn argument(place: usize, other: u64) -> Result<u64, String> {
+    match std::env::args().nth(place) {
+        Some(word) => word.parse().map_err(|_| format!("not a number: {word}")),
+        None => Ok(other),
+    }
+}
