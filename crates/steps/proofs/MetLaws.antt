@@ -1,4 +1,4 @@
--- How promises are put together as outcomes are: laws that serve every parse function. Assumes nothing.
+-- How promises are put together as readers are: laws that serve every parse function. Assumes nothing.
 use Prim.Native.Nat.{ℕ, zero, suc, _+_, _*_, _<_, _≤_}
 use native.Mathlib.Omega.{arith}
 use mathlib.Core.Path.{_≡_, refl, sym, ap, subst, _∙_}
@@ -6,50 +6,26 @@ use mathlib.Core.List.{List, [], _∷_}
 use mathlib.Core.Bool.{Bool, true, false}
 use lib.ListN.{length}
 use Rattle.trees.specs.Choice.{choose}
-use Rattle.trees.specs.Tree.{Tree, Trees, node, ∅, _▸_, _⧺_, count, recordOf, recordsAll}
+use Rattle.trees.specs.Tree.{Tree, Trees, node, ∅, _▸_, _⧺_, count, head, recordOf, recordsAll}
 use Rattle.trees.specs.declared.Head.{Head}
 use Rattle.trees.proofs.Laws.{size-none, size-one, size-node, size-⧺, count-none, count-one, count-⧺}
 use Rattle.records.specs.Slots.{put, writes}
 use Rattle.records.proofs.Laws.{writes-none, writes-⧺, writes-node}
 use Rattle.tokens.specs.declared.Token.{Token}
 use Rattle.tokens.specs.Token.{tokenAt}
+use Rattle.tokens.specs.Input.{Input, input, peek}
 use Rattle.steps.specs.declared.Refusal.{Refusal}
 use Rattle.steps.specs.declared.Parsed.{Parsed}
 use Rattle.steps.specs.declared.Parsed.the-variants.{Accepted, Refused}
-use Rattle.steps.specs.Outcome.{Outcome, accept, refuse, begin, before, _⊳_, thenAt, nodeOf, unexpected, expectAt}
-use Rattle.steps.specs.Met.{Taken, Met, Chained, ChainedAt, movedTo, moved, Closed}
+use Rattle.steps.specs.Outcome.{Outcome, accept, refuse, Reader, refusal, before, andThen, _⊳_, thenAt, nodeOf, parent, bare, leaf, nothing, refuseFrom, ifNext, ifSecond, unexpected, expectAt}
+use Rattle.steps.specs.Met.{Taken, Met, Chained, ChainedAt, movedTo, moved, inside, Closed, Leafed, tokenFor, secondFor}
 
--- a function entered at an acceptance
-pub enter : (f : ℕ → Outcome) (p : Parsed) (i n k : ℕ) (l l′ : List ℕ) (r : Parsed) → p ≡ Accepted i n k → Met (f i) n k l l′ r → Chained f p l l′ r
-unfolding Chained
-enter f p i n k l l′ r e m = rw e m
+-- ---- outcomes
 
-pub enter-at : (f : ℕ → ℕ → Outcome) (p : Parsed) (i n k : ℕ) (l l′ : List ℕ) (r : Parsed) → p ≡ Accepted i n k → Met (f k i) n k l l′ r → ChainedAt f p l l′ r
-unfolding ChainedAt
-enter-at f p i n k l l′ r e m = rw e m
-
-pub plain-at : (f : ℕ → Outcome) (p : Parsed) (l l′ : List ℕ) (r : Parsed) → Chained f p l l′ r → ChainedAt (λ _. f) p l l′ r
-unfolding Chained ChainedAt
-plain-at f (Accepted i n k) l l′ r h = h
-plain-at f (Refused e) l l′ r h = h
-
-pub at-here : (f : ℕ → Outcome) (i n k : ℕ) (l l′ : List ℕ) (r : Parsed) → Chained f (Accepted i n k) l l′ r → Met (f i) n k l l′ r
-unfolding Chained
-at-here f i n k l l′ r h = h
-
-pub at-here-at : (f : ℕ → ℕ → Outcome) (i n k : ℕ) (l l′ : List ℕ) (r : Parsed) → ChainedAt f (Accepted i n k) l l′ r → Met (f k i) n k l l′ r
-unfolding ChainedAt
-at-here-at f i n k l l′ r h = h
-
-pub begun : (i n k : ℕ) (l : List ℕ) → Met (begin i) n k l l (Accepted i n k)
+pub begun : (i n k : ℕ) (l : List ℕ) → Met (accept ∅ i) n k l l (Accepted i n k)
 unfolding Met
 begun i n k l = record { ends = refl; counted = omega (arith, size-none); rows = omega (arith, count-none); wrote = sym (writes-none l n) }
 
-pub refuses : (e d : Refusal) (n k : ℕ) (l l′ : List ℕ) → d ≡ e → Met (refuse e) n k l l′ (Refused d)
-unfolding Met
-refuses e d n k l l′ h = h
-
--- one part after another
 joined : (ts : Trees) (j n k : ℕ) (l l₁ l₂ : List ℕ) (i m c : ℕ) (o : Outcome) (r : Parsed) → Taken ts j n k l l₁ i m c → Met o m c l₁ l₂ r → Met (before ts o) n k l l₂ r
 unfolding Met before
 joined ts j n k l l₁ l₂ i m c (accept us x) (Accepted next slot items) h g =
@@ -67,7 +43,7 @@ refused-on : (e d : Refusal) (n k : ℕ) (l l₂ : List ℕ) (r : Parsed) → d 
 unfolding Met
 refused-on e d n k l l₂ r h g = rw g h
 
-pub chain-at : (o : Outcome) (f : ℕ → ℕ → Outcome) (n k : ℕ) (l l₁ l₂ : List ℕ) (q r : Parsed) → ChainedAt f q l₁ l₂ r → Met o n k l l₁ q → Met (thenAt k o f) n k l l₂ r
+pub chain-at : (o : Outcome) (f : ℕ → Reader) (n k : ℕ) (l l₁ l₂ : List ℕ) (q r : Parsed) → ChainedAt f q l₁ l₂ r → Met o n k l l₁ q → Met (thenAt k o f) n k l l₂ r
 unfolding Met ChainedAt thenAt
 chain-at (accept ts j) f n k l l₁ l₂ (Accepted i m c) r g h =
     joined ts j n k l l₁ l₂ i m c (f (k + count ts) j) r h
@@ -76,15 +52,45 @@ chain-at (accept ts j) f n k l l₁ l₂ (Refused d) r g h = absurd h
 chain-at (refuse e) f n k l l₁ l₂ (Accepted i m c) r g h = absurd h
 chain-at (refuse e) f n k l l₁ l₂ (Refused d) r g h = refused-on e d n k l l₂ r h g
 
-plain-then : (k : ℕ) (o : Outcome) (f : ℕ → Outcome) → thenAt k o (λ _. f) ≡ o ⊳ f
-unfolding thenAt _⊳_
+plain-then : (k : ℕ) (o : Outcome) (f : Reader) → thenAt k o (λ _. f) ≡ andThen o f
+unfolding thenAt andThen
 plain-then k (accept ts i) f = refl
 plain-then k (refuse e) f = refl
 
-pub chain : (o : Outcome) (f : ℕ → Outcome) (n k : ℕ) (l l₁ l₂ : List ℕ) (q r : Parsed) → Chained f q l₁ l₂ r → Met o n k l l₁ q → Met (o ⊳ f) n k l l₂ r
-chain o f n k l l₁ l₂ q r g h = subst (λ (x : Outcome). Met x n k l l₂ r) (plain-then k o f) (chain-at o (λ _. f) n k l l₁ l₂ q r (plain-at f q l₁ l₂ r g) h)
+closed-met : (o : Outcome) (h : Head) (i n k : ℕ) (l l₁ l₂ : List ℕ) (q r : Parsed) → Closed h (Accepted i n k) q l₁ l₂ r → Met o (n + 1) 0 l l₁ q → Met (nodeOf h o) n k l l₂ r
+unfolding Closed Met nodeOf
+closed-met (accept ts j) h i n k l l₁ l₂ (Accepted x m c) r z y =
+    rw (z .0)
+    (record {
+      ends = y .ends;
+      counted = omega (arith, y .counted, size-one (node h ts), size-node h ts);
+      rows = omega (arith, count-one (node h ts));
+      wrote = z .1 ∙ ap (λ (v : List ℕ). put v n (recordOf h c)) (y .wrote) ∙ rw (kids (count ts) c (y .rows)) (writes-node h ts l n);
+    })
+  where
+    kids : (a b : ℕ) → b ≡ 0 + a → b ≡ a
+    kids a b v = omega arith
+closed-met (accept ts j) h i n k l l₁ l₂ (Refused d) r z y = absurd y
+closed-met (refuse f) h i n k l l₁ l₂ (Accepted x m c) r z y = absurd y
+closed-met (refuse f) h i n k l l₁ l₂ (Refused d) r z y = rw z y
 
--- a step over a token is a part that reads no tree
+-- ---- readers
+
+pub plain-at : (f : Reader) (p : Parsed) (l l′ : List ℕ) (r : Parsed) → Chained f p l l′ r → ChainedAt (λ _. f) p l l′ r
+unfolding Chained ChainedAt
+plain-at f (Accepted i n k) l l′ r h = h
+plain-at f (Refused e) l l′ r h = h
+
+-- one part after another
+pub chain : (f g : Reader) (p q r : Parsed) (l l₁ l₂ : List ℕ) → Chained g q l₁ l₂ r → Chained f p l l₁ q → Chained (f ⊳ g) p l l₂ r
+unfolding Chained _⊳_
+chain f g (Accepted i n k) q r l l₁ l₂ b a = subst (λ (x : Outcome). Met x n k l l₂ r) (plain-then k (f i) g) (chain-at (f i) (λ _. g) n k l l₁ l₂ q r (plain-at g q l₁ l₂ r b) a)
+chain f g (Refused e) q r l l₁ l₂ b a = stay (rw a at b)
+  where
+    stay : Chained g (Refused e) l₁ l₂ r → r ≡ Refused e
+    stay h = h
+
+-- a step over a token, and a refusal, are parts that read no tree
 token-met : (tokens : List ℕ) (end : ℕ) (test : Token → Bool) (i n k : ℕ) (l : List ℕ) (b : Bool) → test (tokenAt tokens end i) ≡ b → Met (expectAt tokens end test i) n k l l (movedTo n k (expectAt tokens end test i))
 unfolding expectAt movedTo Met
 token-met tokens end test i n k l true e = rw e (begun (i + 1) n k l)
@@ -95,28 +101,81 @@ unfolding moved Chained
 token tokens end test (Accepted i n k) r l e = rw e (token-met tokens end test i n k l (test (tokenAt tokens end i)) refl)
 token tokens end test (Refused d) r l e = e
 
+pub refusing : (tokens : List ℕ) (end code : ℕ) (q r : Parsed) (l : List ℕ) → r ≡ moved (refuseFrom tokens end code) q → Chained (refuseFrom tokens end code) q l l r
+unfolding moved movedTo Chained Met refuseFrom
+refusing tokens end code (Accepted i n k) r l e = rw e refl
+refusing tokens end code (Refused d) r l e = e
+
+pub nothing-read : (p : Parsed) (l : List ℕ) → Chained nothing p l l p
+unfolding Chained nothing
+nothing-read (Accepted i n k) l = begun i n k l
+nothing-read (Refused d) l = refl
+
 -- a node over its children
-pub closed : (o : Outcome) (h g : Head) (n k : ℕ) (l l₁ l₂ : List ℕ) (q r : Parsed) → Closed g n k q l₁ l₂ r → g ≡ h → Met o (n + 1) 0 l l₁ q → Met (nodeOf h o) n k l l₂ r
-unfolding Closed Met nodeOf
-closed (accept ts j) h g n k l l₁ l₂ (Accepted i m c) r x e y =
-    rw (x .0)
+over : (f : Reader) (h : ℕ → Head) (g : Head) (p q r : Parsed) (l l₁ l₂ : List ℕ) → ((i n k : ℕ) → p ≡ Accepted i n k → g ≡ h i) → Closed g p q l₁ l₂ r → Chained f (inside p) l l₁ q → Chained (λ i. nodeOf (h i) (f i)) p l l₂ r
+unfolding Chained inside Closed
+over f h g (Accepted i n k) q r l l₁ l₂ same c m = subst (λ (x : Head). Met (nodeOf x (f i)) n k l l₂ r) (same i n k refl) (closed-met (f i) g i n k l l₁ l₂ q r c m)
+over f h g (Refused e) q r l l₁ l₂ same c m = c
+
+module _ (tokens text : List ℕ) (end kind flags : ℕ) (f : Reader) (p q₀ q r : Parsed) (l l₁ l₂ : List ℕ) where
+  pub node-read : Closed (head kind flags (tokenFor tokens end p .pos) 0 0) p q l₁ l₂ r → q₀ ≡ inside p → Chained f q₀ l l₁ q → Chained (parent (input tokens text end) kind flags f) p l l₂ r
+  unfolding parent tokenFor
+  node-read c e m =
+      over f (λ i. head kind flags (tokenAt tokens end i .pos) 0 0) (head kind flags (tokenFor tokens end p .pos) 0 0) p q r l l₁ l₂ (λ i n k z. rw z) c (rw e at m)
+
+pub bare-read : (kind : ℕ) (f : Reader) (p q₀ q r : Parsed) (l l₁ l₂ : List ℕ) → Closed (head kind 0 0 0 0) p q l₁ l₂ r → q₀ ≡ inside p → Chained f q₀ l l₁ q → Chained (bare kind f) p l l₂ r
+unfolding bare
+bare-read kind f p q₀ q r l l₁ l₂ c e m = over f (λ i. head kind 0 0 0 0) (head kind 0 0 0 0) p q r l l₁ l₂ (λ i n k z. refl) c (rw e at m)
+
+-- a leaf
+leaf-met : (h : Head) (i n k : ℕ) (l l′ : List ℕ) (r : Parsed) → Leafed h (Accepted i n k) l l′ r → Met (accept (node h ∅ ▸ ∅) (i + 1)) n k l l′ r
+unfolding Leafed Met
+leaf-met h i n k l l′ r c =
+    rw (c .0)
     (record {
-      ends = y .ends;
-      counted = omega (arith, y .counted, size-one (node h ts), size-node h ts);
-      rows = omega (arith, count-one (node h ts));
-      wrote = x .1 ∙ ap (λ (z : List ℕ). put z n (recordOf g c)) (y .wrote) ∙ rw (e, kids (count ts) c (y .rows)) (writes-node h ts l n);
+      ends = refl;
+      counted = omega (arith, size-one (node h ∅), size-node h ∅, size-none);
+      rows = omega (arith, count-one (node h ∅));
+      wrote = c .1 ∙ ap (λ (v : List ℕ). put v n (recordOf h 0)) (sym (writes-none l (n + 1))) ∙ ap (λ (x : ℕ). put (writes l (n + 1) (recordsAll ∅)) n (recordOf h x)) (sym count-none) ∙ writes-node h ∅ l n;
     })
-  where
-    kids : (a b : ℕ) → b ≡ 0 + a → b ≡ a
-    kids a b z = omega arith
-closed (accept ts j) h g n k l l₁ l₂ (Refused d) r x e y = absurd y
-closed (refuse f) h g n k l l₁ l₂ (Accepted i m c) r x e y = absurd y
-closed (refuse f) h g n k l l₁ l₂ (Refused d) r x e y = rw x y
 
--- a choice by a test of a token
-module _ (test : Token → Bool) (tokens : List ℕ) (end i : ℕ) (t : Token) (b : Bool) (f g : Unit {0} → Outcome) (n k : ℕ) (l l′ : List ℕ) (r : Parsed) where
-  pub yes : t ≡ tokenAt tokens end i → b ≡ test t → b ≡ true → Met (f tt) n k l l′ r → Met (choose (test (tokenAt tokens end i)) f g) n k l l′ r
-  yes a p q m = rw (← a, ← p, q) m
+leaf-gone : (g : Head) (x : Refusal) (r : Parsed) (l l′ : List ℕ) → Leafed g (Refused x) l l′ r → r ≡ Refused x
+unfolding Leafed
+leaf-gone g x r l l′ c = c
 
-  pub no : t ≡ tokenAt tokens end i → b ≡ test t → b ≡ false → Met (g tt) n k l l′ r → Met (choose (test (tokenAt tokens end i)) f g) n k l l′ r
-  no a p q m = rw (← a, ← p, q) m
+pub leaf-read : (tokens text : List ℕ) (end : ℕ) (h : Token → Head) (g : Head) (p r : Parsed) (l l′ : List ℕ) → Leafed g p l l′ r → g ≡ h (tokenFor tokens end p) → Chained (leaf (input tokens text end) h) p l l′ r
+unfolding Chained leaf tokenFor
+leaf-read tokens text end h g (Accepted i n k) r l l′ c e = leaf-met (h (tokenAt tokens end i)) i n k l l′ r (rw e at c)
+leaf-read tokens text end h g (Refused x) r l l′ c e = leaf-gone g x r l l′ c
+
+-- two readers that agree at a state
+agree : (f g : Reader) (p r : Parsed) (l l′ : List ℕ) → ((i n k : ℕ) → p ≡ Accepted i n k → g i ≡ f i) → Chained g p l l′ r → Chained f p l l′ r
+unfolding Chained
+agree f g (Accepted i n k) r l l′ same m = subst (λ (x : Outcome). Met x n k l l′ r) (same i n k refl) m
+agree f g (Refused e) r l l′ same m = m
+
+-- a choice by a token
+module _ (test : Token → Bool) (tokens text : List ℕ) (end : ℕ) (f g : Reader) (p r : Parsed) (t : Token) (b : Bool) (l l′ : List ℕ) where
+  next-is : (i n k : ℕ) → p ≡ Accepted i n k → t ≡ tokenFor tokens end p → b ≡ test t → test (tokenAt tokens end i) ≡ b
+  unfolding tokenFor
+  next-is i n k z a e = let w : t ≡ tokenAt tokens end i = rw z at a in rw (← w, ← e)
+
+  pub next-yes : t ≡ tokenFor tokens end p → b ≡ test t → b ≡ true → Chained f p l l′ r → Chained (ifNext (input tokens text end) test f g) p l l′ r
+  unfolding ifNext
+  next-yes a e c m = agree (λ i. choose (test (tokenAt tokens end i)) (λ _. f i) (λ _. g i)) f p r l l′ (λ i n k z. rw (next-is i n k z a e, c)) m
+
+  pub next-no : t ≡ tokenFor tokens end p → b ≡ test t → b ≡ false → Chained g p l l′ r → Chained (ifNext (input tokens text end) test f g) p l l′ r
+  unfolding ifNext
+  next-no a e c m = agree (λ i. choose (test (tokenAt tokens end i)) (λ _. f i) (λ _. g i)) g p r l l′ (λ i n k z. rw (next-is i n k z a e, c)) m
+
+  second-is : (i n k : ℕ) → p ≡ Accepted i n k → t ≡ secondFor tokens end p → b ≡ test t → test (tokenAt tokens end (i + 1)) ≡ b
+  unfolding secondFor
+  second-is i n k z a e = let w : t ≡ tokenAt tokens end (i + 1) = rw z at a in rw (← w, ← e)
+
+  pub second-yes : t ≡ secondFor tokens end p → b ≡ test t → b ≡ true → Chained f p l l′ r → Chained (ifSecond (input tokens text end) test f g) p l l′ r
+  unfolding ifSecond
+  second-yes a e c m = agree (λ i. choose (test (tokenAt tokens end (i + 1))) (λ _. f i) (λ _. g i)) f p r l l′ (λ i n k z. rw (second-is i n k z a e, c)) m
+
+  pub second-no : t ≡ secondFor tokens end p → b ≡ test t → b ≡ false → Chained g p l l′ r → Chained (ifSecond (input tokens text end) test f g) p l l′ r
+  unfolding ifSecond
+  second-no a e c m = agree (λ i. choose (test (tokenAt tokens end (i + 1))) (λ _. f i) (λ _. g i)) g p r l l′ (λ i n k z. rw (second-is i n k z a e, c)) m

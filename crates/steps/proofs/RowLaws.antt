@@ -7,16 +7,16 @@ use mathlib.Core.Bool.{Bool, true, false, not}
 use lib.ListN.{length}
 use borrow.Author.Tests.{not-true, not-false}
 use Rattle.trees.specs.Choice.{choose}
-use Rattle.trees.specs.Tree.{Trees, _⧺_, count, recordsAll}
+use Rattle.trees.specs.Tree.{Trees, ∅, _⧺_, count, recordsAll}
 use Rattle.trees.proofs.Laws.{size-⧺, count-⧺}
 use Rattle.tokens.specs.Input.{Input, size}
 use Rattle.steps.specs.declared.Refusal.{Refusal}
 use Rattle.steps.specs.declared.Parsed.{Parsed}
 use Rattle.steps.specs.declared.Parsed.the-variants.{Accepted, Refused}
-use Rattle.steps.specs.Outcome.{Outcome, accept, refuse, refusal, begin, before, thenAt, itemsFrom, manyAt, many}
+use Rattle.steps.specs.Outcome.{Outcome, accept, refuse, Reader, refusal, before, nothing, thenAt, itemsFrom, manyAt, many}
 use Rattle.steps.specs.Met.{Taken, Met, Chained, ChainedAt, goesOn, At, Ready}
 use Rattle.steps.proofs.MetLaws.{begun, chain-at, plain-at}
-use Rattle.steps.proofs.SizeLaws.{Fit, Sized, Bounded, BoundedAt, plain-bounded, sized-begin, sized-refuse, sized-accept, sized-choose}
+use Rattle.steps.proofs.SizeLaws.{Fit, Sized, Bounded, BoundedAt, plain-bounded, nothing-bounded, sized-refuse, sized-accept, sized-choose}
 
 -- ---- the bound
 
@@ -25,12 +25,16 @@ unfolding thenAt
 same-then k (accept ts j) f g h = ap (before ts) (h ts j refl)
 same-then k (refuse e) f g h = refl
 
-turn : (stop : ℕ → Bool) (f : ℕ → ℕ → Outcome) (n k i : ℕ) → itemsFrom stop f (suc n) k i ≡ choose (stop i) (λ _. begin i) (λ _. thenAt k (f k i) (itemsFrom stop f n))
+turn : (stop : ℕ → Bool) (f : ℕ → ℕ → Outcome) (n k i : ℕ) → itemsFrom stop f (suc n) k i ≡ choose (stop i) (λ _. accept ∅ i) (λ _. thenAt k (f k i) (itemsFrom stop f n))
 unfolding itemsFrom
 turn stop f n k i = refl
 
 same-turn : (stop : ℕ → Bool) (f : ℕ → ℕ → Outcome) (a b k i : ℕ) → thenAt k (f k i) (itemsFrom stop f a) ≡ thenAt k (f k i) (itemsFrom stop f b) → itemsFrom stop f (suc a) k i ≡ itemsFrom stop f (suc b) k i
-same-turn stop f a b k i e = turn stop f a k i ∙ ap (λ (o : Outcome). choose (stop i) (λ _. begin i) (λ _. o)) e ∙ sym (turn stop f b k i)
+same-turn stop f a b k i e = turn stop f a k i ∙ ap (λ (o : Outcome). choose (stop i) (λ _. accept ∅ i) (λ _. o)) e ∙ sym (turn stop f b k i)
+
+sized-none : (s : Input) (i : ℕ) → Sized 0 0 0 s i (accept ∅ i)
+unfolding nothing
+sized-none s i = nothing-bounded s .sized i
 
 -- an item and what follows it
 after-item : (s : Input) (i c : ℕ) (ts : Trees) (m : ℕ) (o : Outcome) → Fit 1 c 0 s i ts m → Sized 0 0 0 s m o → Sized 0 0 0 s i (before ts o)
@@ -66,11 +70,11 @@ module _ (stop : ℕ → Bool) (f : ℕ → ℕ → Outcome) (s : Input) (c d : 
       (λ ts j e. let w = g .sized k i .fit ts j e in enough a b (k + count ts) j (w .inside h) (omega (arith, w .on)) (omega (arith, w .on))))
 
   -- a row with no bound: nothing where it stops, and else an item and the row after it
-  pub row-law : (k i : ℕ) → i ≤ size s → manyAt (size s) stop f k i ≡ choose (stop i) (λ _. begin i) (λ _. thenAt k (f k i) (manyAt (size s) stop f))
+  pub row-law : (k i : ℕ) → i ≤ size s → manyAt (size s) stop f k i ≡ choose (stop i) (λ _. accept ∅ i) (λ _. thenAt k (f k i) (manyAt (size s) stop f))
   unfolding manyAt
   row-law k i h =
       turn stop f (size s) k i
-      ∙ ap (λ (o : Outcome). choose (stop i) (λ _. begin i) (λ _. o))
+      ∙ ap (λ (o : Outcome). choose (stop i) (λ _. accept ∅ i) (λ _. o))
       (same-then k (f k i) (itemsFrom stop f (size s)) (itemsFrom stop f (suc (size s)))
       (λ ts j e. let w = g .sized k i .fit ts j e in enough (size s) (suc (size s)) (k + count ts) j (w .inside h) (omega (arith, w .on)) (omega (arith, w .on))))
 
@@ -79,7 +83,7 @@ module _ (stop : ℕ → Bool) (f : ℕ → ℕ → Outcome) (s : Input) (c d : 
   unfolding itemsFrom
   row-sized zero k i z = sized-refuse 0 0 0 s i (refusal 0 0 0)
   row-sized (suc n) k i z =
-      sized-choose 0 0 0 s i (stop i) (λ _. begin i) (λ _. thenAt k (f k i) (itemsFrom stop f n)) (λ e. sized-begin s i)
+      sized-choose 0 0 0 s i (stop i) (λ _. accept ∅ i) (λ _. thenAt k (f k i) (itemsFrom stop f n)) (λ e. sized-none s i)
       (λ e. row-after s k i c d (f k i) (itemsFrom stop f n) (g .sized k i) z (λ m j. row-sized n m j z))
 
   pub row-bounded : d ≡ 0 → BoundedAt 0 0 0 s (manyAt (size s) stop f)
@@ -136,7 +140,7 @@ left-falls s stop f (Refused d) r l l′ c e x h t v g a = let z : _≡_ {A = �
 same-row : (stop : ℕ → Bool) (f : ℕ → Outcome) (n k m i : ℕ) → itemsFrom stop (λ _. f) n k i ≡ itemsFrom stop (λ _. f) n m i
 unfolding itemsFrom
 same-row stop f zero k m i = refl
-same-row stop f (suc n) k m i = ap (λ (o : Outcome). choose (stop i) (λ _. begin i) (λ _. o)) (same-rest (f i) (itemsFrom stop (λ _. f) n) k m (λ a b j. same-row stop f n a b j))
+same-row stop f (suc n) k m i = ap (λ (o : Outcome). choose (stop i) (λ _. accept ∅ i) (λ _. o)) (same-rest (f i) (itemsFrom stop (λ _. f) n) k m (λ a b j. same-row stop f n a b j))
 
 pub plain-row : (s : Input) (stop : ℕ → Bool) (f : ℕ → Outcome) (p r : Parsed) (l l′ : List ℕ) → ChainedAt (manyAt (size s) stop (λ _. f)) p l l′ r → Chained (many (size s) stop f) p l l′ r
 unfolding ChainedAt Chained many manyAt

@@ -21,8 +21,8 @@ use Rattle.tokens.proofs.TokenLaws.{kind-inside, word-kind, const-kind}
 use Rattle.steps.specs.declared.Refusal.{Refusal}
 use Rattle.steps.specs.declared.Parsed.{Parsed}
 use Rattle.steps.specs.declared.Parsed.the-variants.{Accepted, Refused}
-use Rattle.steps.specs.Outcome.{Outcome, accept, refuse, begin, before, _⊳_, nodeOf, refusal, unexpected, expectAt, expect-lparen, expect-rparen, identAt, nameBy, parseIdent, constRefusal, parseConst}
-use Rattle.steps.specs.Met.{Taken, Met, Chained, ChainedAt, movedTo, moved, At, Ready, Small}
+use Rattle.steps.specs.Outcome.{Outcome, accept, refuse, Reader, refusal, before, andThen, _⊳_, nodeOf, parent, bare, leaf, nothing, refuseFrom, refuseAt, ifNext, ifSecond, unexpected, expectAt, expect-lparen, expect-rparen, expect-at, expect-word, identAt, nameBy, parseIdent, constRefusal, parseConst}
+use Rattle.steps.specs.Met.{Taken, Met, Chained, ChainedAt, movedTo, moved, inside, At, Ready, Below, Near, Small}
 use Rattle.steps.proofs.MetLaws.{plain-at, token}
 
 -- the row ts, read from token i to j: at least u tokens, and 3 records for each of them with c to spare and d too many at most
@@ -56,8 +56,9 @@ pub sized-accept : (u c d : ℕ) (s : Input) (i : ℕ) (us : Trees) (m : ℕ) �
 sized-accept u c d s i us m h =
     record { fit = λ ts j e. let a : us ≡ ts = cc in let b : m ≡ j = cc in subst (λ (x : Trees). Fit u c d s i x j) a (subst (λ (x : ℕ). Fit u c d s i us x) b h) }
 
-pub sized-begin : (s : Input) (i : ℕ) → Sized 0 0 0 s i (begin i)
-sized-begin s i = sized-accept 0 0 0 s i ∅ i (record { on = omega arith; inside = λ h. h; room = omega (arith, size-none); kids = omega (arith, count-none) })
+pub nothing-bounded : (s : Input) → Bounded 0 0 0 s nothing
+unfolding nothing
+nothing-bounded s = record { sized = λ i. sized-accept 0 0 0 s i ∅ i (record { on = omega arith; inside = λ h. h; room = omega (arith, size-none); kids = omega (arith, count-none) }) }
 
 -- a weaker bound
 pub sized-less : (u c d u′ c′ d′ : ℕ) (s : Input) (i : ℕ) (o : Outcome) → u′ ≤ u → c′ + d ≤ c + d′ → d ≤ d′ → Sized u c d s i o → Sized u′ c′ d′ s i o
@@ -79,10 +80,14 @@ module _ (u c d u′ c′ d′ : ℕ) (s : Input) (i : ℕ) where
       })
   after ts m (refuse e) g h = sized-refuse (u + u′) (c + c′) (d + d′) s i e
 
-  pub sized-then : (o : Outcome) (f : ℕ → Outcome) → Sized u c d s i o → Bounded u′ c′ d′ s f → Sized (u + u′) (c + c′) (d + d′) s i (o ⊳ f)
-  unfolding _⊳_
+  sized-then : (o : Outcome) (f : Reader) → Sized u c d s i o → Bounded u′ c′ d′ s f → Sized (u + u′) (c + c′) (d + d′) s i (andThen o f)
+  unfolding andThen
   sized-then (accept ts m) f h g = after ts m (f m) (h .fit ts m refl) (g .sized m)
   sized-then (refuse e) f h g = sized-refuse (u + u′) (c + c′) (d + d′) s i e
+
+pub then-bounded : (u c d u′ c′ d′ : ℕ) (s : Input) (f g : Reader) → Bounded u c d s f → Bounded u′ c′ d′ s g → Bounded (u + u′) (c + c′) (d + d′) s (f ⊳ g)
+unfolding _⊳_
+then-bounded u c d u′ c′ d′ s f g a b = record { sized = λ i. sized-then u c d u′ c′ d′ s i (f i) g (a .sized i) b }
 
 -- a node takes one record more
 pub sized-node : (u c d u′ c′ d′ : ℕ) (s : Input) (i : ℕ) (h : Head) (o : Outcome) → u′ ≤ u → c′ + 1 + d ≤ c + d′ → 1 ≤ u + d′ → Sized u c d s i o → Sized u′ c′ d′ s i (nodeOf h o)
@@ -98,10 +103,33 @@ sized-node u c d u′ c′ d′ s i h (accept ts j) p q r g =
     })
 sized-node u c d u′ c′ d′ s i h (refuse e) p q r g = sized-refuse u′ c′ d′ s i e
 
--- a choice, where each branch may use its test
+pub parent-bounded : (u c d u′ c′ d′ : ℕ) (s : Input) (kind flags : ℕ) (f : Reader) → u′ ≤ u → c′ + 1 + d ≤ c + d′ → 1 ≤ u + d′ → Bounded u c d s f → Bounded u′ c′ d′ s (parent s kind flags f)
+unfolding parent
+parent-bounded u c d u′ c′ d′ s kind flags f p q r b = record { sized = λ i. sized-node u c d u′ c′ d′ s i (head kind flags (peek s i .pos) 0 0) (f i) p q r (b .sized i) }
+
+pub bare-bounded : (u c d u′ c′ d′ : ℕ) (s : Input) (kind : ℕ) (f : Reader) → u′ ≤ u → c′ + 1 + d ≤ c + d′ → 1 ≤ u + d′ → Bounded u c d s f → Bounded u′ c′ d′ s (bare kind f)
+unfolding bare
+bare-bounded u c d u′ c′ d′ s kind f p q r b = record { sized = λ i. sized-node u c d u′ c′ d′ s i (head kind 0 0 0 0) (f i) p q r (b .sized i) }
+
+pub less-bounded : (u c d u′ c′ d′ : ℕ) (s : Input) (f : Reader) → u′ ≤ u → c′ + d ≤ c + d′ → d ≤ d′ → Bounded u c d s f → Bounded u′ c′ d′ s f
+less-bounded u c d u′ c′ d′ s f p q r b = record { sized = λ i. sized-less u c d u′ c′ d′ s i (f i) p q r (b .sized i) }
+
+-- a choice
 pub sized-choose : (u c d : ℕ) (s : Input) (i : ℕ) (b : Bool) (f g : Unit {0} → Outcome) → (b ≡ true → Sized u c d s i (f tt)) → (b ≡ false → Sized u c d s i (g tt)) → Sized u c d s i (choose b f g)
 sized-choose u c d s i true f g p q = p refl
 sized-choose u c d s i false f g p q = q refl
+
+pub next-bounded : (u c d : ℕ) (s : Input) (test : Token → Bool) (f g : Reader) → Bounded u c d s f → Bounded u c d s g → Bounded u c d s (ifNext s test f g)
+unfolding ifNext
+next-bounded u c d s test f g a b = record { sized = λ i. sized-choose u c d s i (test (peek s i)) (λ _. f i) (λ _. g i) (λ e. a .sized i) (λ e. b .sized i) }
+
+pub second-bounded : (u c d : ℕ) (s : Input) (test : Token → Bool) (f g : Reader) → Bounded u c d s f → Bounded u c d s g → Bounded u c d s (ifSecond s test f g)
+unfolding ifSecond
+second-bounded u c d s test f g a b = record { sized = λ i. sized-choose u c d s i (test (peek s (i + 1))) (λ _. f i) (λ _. g i) (λ e. a .sized i) (λ e. b .sized i) }
+
+pub refuse-bounded : (u c d : ℕ) (s : Input) (code : ℕ) → Bounded u c d s (refuseAt s code)
+unfolding refuseFrom
+refuse-bounded u c d s code = record { sized = λ i. sized-refuse u c d s i (refusal code (peek s i .pos) i) }
 
 -- the token i is there
 pub there : (s : Input) (i k : ℕ) → peek s i .kind ≡ k → 0 < k → i < size s
@@ -142,13 +170,22 @@ pub met-there : (s : Input) (i : ℕ) (test : Token → Bool) → Kinded test �
 met-there s i test k e = there s i (k .kind) (k .is (peek s i) e) (k .positive)
 
 -- one token
-pub sized-token : (s : Input) (i : ℕ) → i < size s → Sized 1 3 0 s i (begin (i + 1))
+sized-token : (s : Input) (i : ℕ) → i < size s → Sized 1 3 0 s i (accept ∅ (i + 1))
 sized-token s i h = sized-accept 1 3 0 s i ∅ (i + 1) (record { on = omega arith; inside = λ z. omega arith; room = omega (arith, size-none); kids = omega (arith, count-none) })
 
-pub expect-bounded : (s : Input) (test : Token → Bool) → Kinded test → Bounded 1 3 0 s (expectAt (s .tokens) (s .end) test)
+expect-bounded : (s : Input) (test : Token → Bool) → Kinded test → Bounded 1 3 0 s (expectAt (s .tokens) (s .end) test)
 unfolding expectAt
 expect-bounded s test k =
-    record { sized = λ i. sized-choose 1 3 0 s i (test (peek s i)) (λ _. begin (i + 1)) (λ _. refuse (unexpected (peek s i) i)) (λ e. sized-token s i (met-there s i test k e)) (λ e. sized-refuse 1 3 0 s i (unexpected (peek s i) i)) }
+    record { sized = λ i. sized-choose 1 3 0 s i (test (peek s i)) (λ _. accept ∅ (i + 1)) (λ _. refuse (unexpected (peek s i) i)) (λ e. sized-token s i (met-there s i test k e)) (λ e. sized-refuse 1 3 0 s i (unexpected (peek s i) i)) }
+
+-- a leaf, where a test says that its token is there
+sized-leaf : (s : Input) (i : ℕ) (h : Head) → i < size s → Sized 1 2 0 s i (accept (node h ∅ ▸ ∅) (i + 1))
+sized-leaf s i h l = sized-accept 1 2 0 s i (node h ∅ ▸ ∅) (i + 1) (record { on = omega arith; inside = λ z. omega arith; room = omega (arith, size-one (node h ∅), size-node h ∅, size-none); kids = omega (arith, count-one (node h ∅)) })
+
+pub leaf-bounded : (c : ℕ) (s : Input) (test : Token → Bool) (h : Token → Head) (g : Reader) → c ≤ 2 → Kinded test → Bounded 1 c 0 s g → Bounded 1 c 0 s (ifNext s test (leaf s h) g)
+unfolding ifNext leaf
+leaf-bounded c s test h g z k b =
+    record { sized = λ i. sized-choose 1 c 0 s i (test (peek s i)) (λ _. accept (node (h (peek s i)) ∅ ▸ ∅) (i + 1)) (λ _. g i) (λ e. sized-less 1 2 0 1 c 0 s i (accept (node (h (peek s i)) ∅ ▸ ∅) (i + 1)) (omega arith) (omega arith) (omega arith) (sized-leaf s i (h (peek s i)) (met-there s i test k e))) (λ e. b .sized i) }
 
 pub lparen-bounded : (s : Input) → Bounded 1 3 0 s (expect-lparen s)
 lparen-bounded s = expect-bounded s isLparen lparen-kinded
@@ -156,20 +193,19 @@ lparen-bounded s = expect-bounded s isLparen lparen-kinded
 pub rparen-bounded : (s : Input) → Bounded 1 3 0 s (expect-rparen s)
 rparen-bounded s = expect-bounded s isRparen rparen-kinded
 
+pub word-bounded : (s : Input) (w : List ℕ) → Bounded 1 3 0 s (expect-word s w)
+word-bounded s w = expect-bounded s (isWord (s .text) w) (word-kinded (s .text) w)
+
+pub at-bounded : (s : Input) → Bounded 1 3 0 s (expect-at s)
+at-bounded s = expect-bounded s isAt at-kinded
+
 -- one name
 one-name : (s : Input) (i : ℕ) (t : Token) (range c : ℕ) → i < size s → Sized 1 2 0 s i (identAt t range c i)
 unfolding identAt
 one-name s i t range c h = go (eqb c 0)
   where
     go : (b : Bool) → Sized 1 2 0 s i (pick b (accept (Ident (t .pos) range ▸ ∅) (i + 1)) (refuse (refusal c (t .pos) (i + 1))))
-    go true =
-        sized-accept 1 2 0 s i (Ident (t .pos) range ▸ ∅) (i + 1)
-        (record {
-          on = omega arith;
-          inside = λ z. omega arith;
-          room = omega (arith, size-one (Ident (t .pos) range), size-node (head 24 0 (t .pos) range 0) ∅, size-none);
-          kids = omega (arith, count-one (Ident (t .pos) range));
-        })
+    go true = sized-leaf s i (head 24 0 (t .pos) range 0) h
     go false = sized-refuse 1 2 0 s i (refusal c (t .pos) (i + 1))
 
 pub name-sized : (s : Input) (judge : List ℕ → ℕ) (range : ℕ → ℕ) (i : ℕ) → Sized 1 2 0 s i (nameBy s judge range i)
@@ -191,38 +227,54 @@ const-bounded s = record { sized = name-sized s constRefusal (λ w. w + 42949672
 
 -- ---- states
 
+ready-within : (c c′ : ℕ) → c + 1 ≤ c′ → c′ ≤ 16 → (s : Input) (p : Parsed) → Ready c s p → Ready c′ s (inside p)
+unfolding Ready inside
+ready-within c c′ x y s (Accepted i n k) a = record { few = a .few; short = a .short; here = a .here; room = omega (arith, a .room); kids = omega arith; slack = y }
+ready-within c c′ x y s (Refused e) a = tt
+
 -- the first state of a node's children
-pub ready-begun : (c c′ : ℕ) → c + 1 ≤ c′ → c′ ≤ 16 → (s : Input) (p : Parsed) (i n k : ℕ) → Ready c s p → p ≡ Accepted i n k → Ready c′ s (Accepted i (n + 1) 0)
-unfolding Ready
-ready-begun c c′ x y s p i n k h e =
-    let a = subst (λ (z : Parsed). Ready c s z) e h in
-    record { few = a .few; short = a .short; here = a .here; room = omega (arith, a .room); kids = omega arith; slack = y }
+pub ready-inside : (c c′ : ℕ) → c + 1 ≤ c′ → c′ ≤ 16 → (s : Input) (p q : Parsed) → q ≡ inside p → Ready c s p → Ready c′ s q
+ready-inside c c′ x y s p q e h = rw e (ready-within c c′ x y s p h)
 
-ready-met : (c u b : ℕ) (s : Input) (i n k : ℕ) (o : Outcome) (l l′ : List ℕ) (r : Parsed) → Sized u b 0 s i o → At c s i n k → Met o n k l l′ r → Ready c s r
-unfolding Met Ready
-ready-met c u b s i n k (accept ts j) l l′ (Accepted x m w) z a h =
-    let f = z .fit ts j refl in
-    record {
-      few = a .few;
-      short = a .short;
-      here = omega (arith, h .ends, f .inside (a .here));
-      room = omega (arith, h .ends, h .counted, f .room, a .room);
-      kids = omega (arith, h .ends, h .rows, f .kids, a .kids);
-      slack = a .slack;
-    }
-ready-met c u b s i n k (accept ts j) l l′ (Refused d) z a h = absurd h
-ready-met c u b s i n k (refuse e) l l′ (Accepted x m w) z a h = absurd h
-ready-met c u b s i n k (refuse e) l l′ (Refused d) z a h = tt
+module _ (c c′ b : ℕ) (x : c ≤ c′ + b) (y : c′ ≤ 16) where
+  ready-met : (u : ℕ) (s : Input) (i n k : ℕ) (o : Outcome) (l l′ : List ℕ) (r : Parsed) → Sized u b 0 s i o → At c s i n k → Met o n k l l′ r → Ready c′ s r
+  unfolding Met Ready
+  ready-met u s i n k (accept ts j) l l′ (Accepted v m w) z a h =
+      let f = z .fit ts j refl in
+      record {
+        few = a .few;
+        short = a .short;
+        here = omega (arith, h .ends, f .inside (a .here));
+        room = omega (arith, h .ends, h .counted, f .room, a .room);
+        kids = omega (arith, h .ends, h .rows, f .kids, a .kids);
+        slack = y;
+      }
+  ready-met u s i n k (accept ts j) l l′ (Refused d) z a h = absurd h
+  ready-met u s i n k (refuse e) l l′ (Accepted v m w) z a h = absurd h
+  ready-met u s i n k (refuse e) l l′ (Refused d) z a h = tt
 
+  -- the state after a part, with the slack that the part leaves
+  pub ready-less : (f : ℕ → Outcome) (q : Parsed) (l l′ : List ℕ) (r : Parsed) (u : ℕ) (s : Input) → Chained f q l l′ r → Bounded u b 0 s f → Ready c s q → Ready c′ s r
+  unfolding Chained Ready
+  ready-less f (Accepted i n k) l l′ r u s h g a = ready-met u s i n k (f i) l l′ r (g .sized i) a h
+  ready-less f (Refused e) l l′ r u s h g a = rw h tt
+
+-- the state after a part
 pub ready-after : (f : ℕ → Outcome) (q : Parsed) (l l′ : List ℕ) (r : Parsed) (c u b : ℕ) (s : Input) → Chained f q l l′ r → Bounded u b 0 s f → Ready c s q → Ready c s r
 unfolding Chained Ready
-ready-after f (Accepted i n k) l l′ r c u b s h g a = ready-met c u b s i n k (f i) l l′ r (g .sized i) a h
+ready-after f (Accepted i n k) l l′ r c u b s h g a = ready-met c c b (omega arith) (a .slack) u s i n k (f i) l l′ r (g .sized i) a h
 ready-after f (Refused e) l l′ r c u b s h g a = rw h tt
 
 pub ready-after-at : (f : ℕ → ℕ → Outcome) (q : Parsed) (l l′ : List ℕ) (r : Parsed) (c u b : ℕ) (s : Input) → ChainedAt f q l l′ r → BoundedAt u b 0 s f → Ready c s q → Ready c s r
 unfolding ChainedAt Ready
-ready-after-at f (Accepted i n k) l l′ r c u b s h g a = ready-met c u b s i n k (f k i) l l′ r (g .sized k i) a h
+ready-after-at f (Accepted i n k) l l′ r c u b s h g a = ready-met c c b (omega arith) (a .slack) u s i n k (f k i) l l′ r (g .sized k i) a h
 ready-after-at f (Refused e) l l′ r c u b s h g a = rw h tt
+
+-- the state after a token, with the slack that it leaves or as before
+pub ready-token-less : (c c′ : ℕ) → c ≤ c′ + 3 → c′ ≤ 16 → (tokens text : List ℕ) (end : ℕ) (test : Token → Bool) (q r : Parsed) → r ≡ moved (expectAt tokens end test) q → Kinded test → Ready c (input tokens text end) q → Ready c′ (input tokens text end) r
+ready-token-less c c′ x y tokens text end test q r e k a =
+    let s = input tokens text end in
+    ready-less c c′ 3 x y (expectAt tokens end test) q [] [] r 1 s (token tokens end test q r [] e) (expect-bounded s test k) a
 
 pub ready-token : (tokens text : List ℕ) (end : ℕ) (test : Token → Bool) (q r : Parsed) (c : ℕ) → r ≡ moved (expectAt tokens end test) q → Kinded test → Ready c (input tokens text end) q → Ready c (input tokens text end) r
 ready-token tokens text end test q r c e k a =
@@ -231,5 +283,16 @@ ready-token tokens text end test q r c e k a =
 
 pub small-ready : (c : ℕ) (s : Input) (q : Parsed) → Ready c s q → Small q
 unfolding Ready Small
-small-ready c s (Accepted i n k) a = omega (arith, a .few, a .here, a .kids, a .slack)
+small-ready c s (Accepted i n k) a = omega (arith, a .few, a .here, a .kids)
 small-ready c s (Refused e) a = tt
+
+pub near-ready : (c : ℕ) (s : Input) (q : Parsed) → Ready c s q → Near q
+unfolding Ready Near
+near-ready c s (Accepted i n k) a = record { at = omega (arith, a .few, a .here); slot = omega (arith, a .few, a .here, a .room, a .slack); row = omega (arith, a .few, a .here, a .kids) }
+near-ready c s (Refused e) a = tt
+
+-- fewer records to spare are more
+pub ready-more : (c c′ : ℕ) → c ≤ c′ → c′ ≤ 16 → (s : Input) (q : Parsed) → Ready c s q → Ready c′ s q
+unfolding Ready
+ready-more c c′ x y s (Accepted i n k) a = record { few = a .few; short = a .short; here = a .here; room = omega (arith, a .room); kids = a .kids; slack = y }
+ready-more c c′ x y s (Refused e) a = tt

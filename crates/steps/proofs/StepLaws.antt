@@ -21,16 +21,16 @@ use Rattle.trees.proofs.Laws.{count-none, count-one, size-one, size-node, size-
 use Rattle.records.specs.Slots.{put, writes}
 use Rattle.records.proofs.Laws.{writes-node, writes-none}
 use Rattle.tokens.specs.declared.Token.{Token}
-use Rattle.tokens.specs.Token.{tokenCount, tokenAt, isLparen, isRparen, isSymbol}
+use Rattle.tokens.specs.Token.{tokenCount, tokenAt, pastLast, isLparen, isRparen, isSymbol, isAt, isWord}
 use Rattle.tokens.specs.Ident.{identRefusal}
 use Rattle.tokens.specs.Input.{Input, input, peek}
-use Rattle.tokens.proofs.TokenLaws.{kind-inside}
+use Rattle.tokens.proofs.TokenLaws.{kind-inside, word-kind}
 use Rattle.steps.specs.declared.Refusal.{Refusal}
 use Rattle.steps.specs.declared.Parsed.{Parsed}
 use Rattle.steps.specs.declared.Parsed.the-variants.{Accepted, Refused}
 use Rattle.steps.proofs.Parsed.{the-type}
-use Rattle.steps.specs.Outcome.{Outcome, accept, refuse, refusal, begin, unexpected, expectAt, identAt, nameBy, parseIdent, constRefusal, parseConst}
-use Rattle.steps.specs.Met.{Taken, Met, Chained, movedTo, moved, Closed, goesOn, endsAt, At, Ready, Small, Below}
+use Rattle.steps.specs.Outcome.{Outcome, accept, refuse, refusal, Reader, refuseFrom, unexpected, expectAt, identAt, nameBy, parseIdent, constRefusal, parseConst}
+use Rattle.steps.specs.Met.{Taken, Met, Chained, movedTo, moved, inside, Closed, Leafed, tokenFor, secondFor, goesOn, endsAt, At, Ready, Below, Near, Small}
 
 -- ---- a state that is no acceptance
 
@@ -44,10 +44,50 @@ unfolding moved
 moved-stays f (Accepted i n k) h = absurd (omega arith)
 moved-stays f (Refused e) h = refl
 
-pub closed-stays : (h : Head) (n k : ℕ) (q : Parsed) (l : List ℕ) → OneOf (1 ∷ []) (tagOf the-type q) → Closed h n k q l l q
+pub inside-stays : (p : Parsed) → OneOf (1 ∷ []) (tagOf the-type p) → p ≡ inside p
+unfolding inside
+inside-stays (Accepted i n k) h = absurd (omega arith)
+inside-stays (Refused e) h = refl
+
+pub closed-outer : (h : Head) (p q : Parsed) (l : List ℕ) → OneOf (1 ∷ []) (tagOf the-type p) → Closed h p q l l p
 unfolding Closed
-closed-stays h n k (Accepted j m c) l o = absurd (omega arith)
-closed-stays h n k (Refused e) l o = refl
+closed-outer h (Accepted i n k) q l o = absurd (omega arith)
+closed-outer h (Refused e) q l o = refl
+
+pub closed-inner : (h : Head) (p q : Parsed) (i n k : ℕ) (l : List ℕ) → p ≡ Accepted i n k → OneOf (1 ∷ []) (tagOf the-type q) → Closed h p q l l q
+unfolding Closed
+closed-inner h p (Accepted j m c) i n k l e o = absurd (omega arith)
+closed-inner h p (Refused x) i n k l e o = rw e refl
+
+pub leafed-stays : (h : Head) (p : Parsed) (l : List ℕ) → OneOf (1 ∷ []) (tagOf the-type p) → Leafed h p l l p
+unfolding Leafed
+leafed-stays h (Accepted i n k) l o = absurd (omega arith)
+leafed-stays h (Refused e) l o = refl
+
+past-token : (tokens : List ℕ) (end : ℕ) (p : Parsed) → OneOf (1 ∷ []) (tagOf the-type p) → pastLast end ≡ tokenFor tokens end p
+unfolding tokenFor
+past-token tokens end (Accepted i n k) o = absurd (omega arith)
+past-token tokens end (Refused e) o = refl
+
+past-second : (tokens : List ℕ) (end : ℕ) (p : Parsed) → OneOf (1 ∷ []) (tagOf the-type p) → pastLast end ≡ secondFor tokens end p
+unfolding secondFor
+past-second tokens end (Accepted i n k) o = absurd (omega arith)
+past-second tokens end (Refused e) o = refl
+
+module _ (tokens : List ℕ) (end : ℕ) (p : Parsed) (t : Token) where
+  pub token-refused : t ≡ pastLast end → OneOf (1 ∷ []) (tagOf the-type p) → t ≡ tokenFor tokens end p
+  token-refused e o = e ∙ past-token tokens end p o
+
+  pub second-refused : t ≡ pastLast end → OneOf (1 ∷ []) (tagOf the-type p) → t ≡ secondFor tokens end p
+  second-refused e o = e ∙ past-second tokens end p o
+
+  pub token-is : (i n k : ℕ) → p ≡ Accepted i n k → t ≡ tokenAt tokens end i → t ≡ tokenFor tokens end p
+  unfolding tokenFor
+  token-is i n k e a = a ∙ rw e
+
+  pub second-is : (i n k : ℕ) → p ≡ Accepted i n k → t ≡ tokenAt tokens end (i + 1) → t ≡ secondFor tokens end p
+  unfolding secondFor
+  second-is i n k e a = a ∙ rw e
 
 pub ends-refused : (stop : ℕ → Bool) (p : Parsed) → OneOf (1 ∷ []) (tagOf the-type p) → false ≡ goesOn stop p
 unfolding goesOn
@@ -73,13 +113,27 @@ module _ (tokens : List ℕ) (end i n k : ℕ) (t : Token) (p : Parsed) (test : 
   unfolding moved expectAt movedTo
   expect-refused u e a b c d = rw (d, e, ← a, ← b, c)
 
-pub lparen-fits : (tokens : List ℕ) (end i : ℕ) (t : Token) (r : Bool) → t ≡ tokenAt tokens end i → r ≡ isLparen t → r ≡ true → length tokens < 2 ^ 64 → Fits w64 (i + 1)
-unfolding isLparen
-lparen-fits tokens end i t r a b c h = let x : t .kind ≡ 1 = eqb-true (t .kind) 1 (sym b ∙ c) in omega (arith, kind-inside tokens end i 1 (ap (λ (y : Token). y .kind) (sym a) ∙ x) (omega arith))
+-- a token that passes the test of a kind stands inside the list
+next-there : (tokens : List ℕ) (end i k : ℕ) (t : Token) (r : Bool) → t ≡ tokenAt tokens end i → r ≡ eqb (t .kind) k → r ≡ true → 0 < k → length tokens < 2 ^ 64 → Fits w64 (i + 1)
+next-there tokens end i k t r a b c z h =
+    let x : t .kind ≡ k = eqb-true (t .kind) k (sym b ∙ c) in
+    omega (arith, kind-inside tokens end i k (ap (λ (y : Token). y .kind) (sym a) ∙ x) z)
 
-pub rparen-fits : (tokens : List ℕ) (end i : ℕ) (t : Token) (r : Bool) → t ≡ tokenAt tokens end i → r ≡ isRparen t → r ≡ true → length tokens < 2 ^ 64 → Fits w64 (i + 1)
-unfolding isRparen
-rparen-fits tokens end i t r a b c h = let x : t .kind ≡ 2 = eqb-true (t .kind) 2 (sym b ∙ c) in omega (arith, kind-inside tokens end i 2 (ap (λ (y : Token). y .kind) (sym a) ∙ x) (omega arith))
+module _ (tokens : List ℕ) (end i : ℕ) (t : Token) (r : Bool) where
+  pub lparen-fits : t ≡ tokenAt tokens end i → r ≡ isLparen t → r ≡ true → length tokens < 2 ^ 64 → Fits w64 (i + 1)
+  unfolding isLparen
+  lparen-fits a b c h = next-there tokens end i 1 t r a b c (omega arith) h
+
+  pub rparen-fits : t ≡ tokenAt tokens end i → r ≡ isRparen t → r ≡ true → length tokens < 2 ^ 64 → Fits w64 (i + 1)
+  unfolding isRparen
+  rparen-fits a b c h = next-there tokens end i 2 t r a b c (omega arith) h
+
+  pub word-fits : (text w : List ℕ) → t ≡ tokenAt tokens end i → r ≡ isWord text w t → r ≡ true → length tokens < 2 ^ 64 → Fits w64 (i + 1)
+  word-fits text w a b c h = next-there tokens end i 3 t true a (sym (eq-eqb (t .kind) 3 (word-kind text w t (sym b ∙ c)))) refl (omega arith) h
+
+  pub at-fits : t ≡ tokenAt tokens end i → r ≡ isAt t → r ≡ true → length tokens < 2 ^ 64 → Fits w64 (i + 1)
+  unfolding isAt
+  at-fits a b c h = next-there tokens end i 5 t r a b c (omega arith) h
 
 pub goes-on-is : (tokens : List ℕ) (end i n k : ℕ) (t : Token) (p : Parsed) (r : Bool) → p ≡ Accepted i n k → t ≡ tokenAt tokens end i → r ≡ isRparen t → not r ≡ goesOn (endsAt tokens end) p
 unfolding goesOn
@@ -157,13 +211,10 @@ unfolding Ready
 ready-at c s p i n k h e = subst (λ (x : Parsed). Ready c s x) e h
 
 pub ready-below : (c : ℕ) (s : Input) (p : Parsed) (i n k : ℕ) → Ready c s p → p ≡ Accepted i n k → Below i n k
-ready-below c s p i n k h e = let a = ready-at c s p i n k h e in record { at = omega (arith, a .few, a .here); slot = omega (arith, a .few, a .here, a .room, a .slack); row = omega (arith, a .few, a .here, a .kids, a .slack) }
+ready-below c s p i n k h e = let a = ready-at c s p i n k h e in record { at = omega (arith, a .few, a .here); slot = omega (arith, a .few, a .here, a .room, a .slack); row = omega (arith, a .few, a .here, a .kids) }
 
 pub next-fits : (c : ℕ) (s : Input) (p : Parsed) (i n k : ℕ) → Ready c s p → p ≡ Accepted i n k → Fits w64 (i + 1)
 next-fits c s p i n k h e = let a = ready-at c s p i n k h e in omega (arith, a .few, a .here)
-
-pub slot-fits : (c : ℕ) (s : Input) (p : Parsed) (i n k : ℕ) → Ready c s p → p ≡ Accepted i n k → Fits w64 (n + 1)
-slot-fits c s p i n k h e = let a = ready-at c s p i n k h e in omega (arith, a .few, a .here, a .room, a .slack)
 
 -- a symbol that is a constant starts inside the text
 starts-inside : (text : List ℕ) (a n x : ℕ) → getD (take n (drop a text)) 0 0 ≡ 36 → a < length text
@@ -190,10 +241,52 @@ const-fits c s p i n k b d w h e f g z =
 
 -- ---- nodes
 
-pub closed-put : (h : Head) (n k : ℕ) (q : Parsed) (l l′ : List ℕ) (j m c : ℕ) → q ≡ Accepted j m c → l′ ≡ put l n (recordOf h c) → Closed h n k q l l′ (Accepted j m (k + 1))
-unfolding Closed
-closed-put h n k q l l′ j m c e f = rw e (refl, f)
+pub inside-is : (p : Parsed) (i n k : ℕ) → p ≡ Accepted i n k → Accepted i (n + 1) 0 ≡ inside p
+unfolding inside
+inside-is p i n k e = rw e
 
-pub small-fits : (q : Parsed) (j m c : ℕ) → Small q → q ≡ Accepted j m c → Fits w16 c
+pub closed-put : (h : Head) (p q : Parsed) (l l′ : List ℕ) (i n k j m c : ℕ) → p ≡ Accepted i n k → q ≡ Accepted j m c → l′ ≡ put l n (recordOf h c) → Closed h p q l l′ (Accepted j m (k + 1))
+unfolding Closed
+closed-put h p q l l′ i n k j m c d e f = rw (d, e) (refl, f)
+
+pub leafed-put : (h : Head) (p : Parsed) (l l′ : List ℕ) (i n k : ℕ) (r : Parsed) → p ≡ Accepted i n k → Closed h (Accepted i n k) (Accepted (i + 1) (n + 1) 0) l l′ r → Leafed h p l l′ r
+unfolding Closed Leafed
+leafed-put h p l l′ i n k r e c = rw e c
+
+pub refused-here : (tokens : List ℕ) (end code : ℕ) (p : Parsed) (i n k : ℕ) (t : Token) → p ≡ Accepted i n k → t ≡ tokenAt tokens end i → Refused (refusal code (t .pos) i) ≡ moved (refuseFrom tokens end code) p
+unfolding moved movedTo refuseFrom
+refused-here tokens end code p i n k t e a = rw (e, a)
+
+pub closed-at : (tokens : List ℕ) (end kind flags : ℕ) (t : Token) (p q r : Parsed) (l l′ : List ℕ) → t ≡ tokenFor tokens end p → Closed (head kind flags (t .pos) 0 0) p q l l′ r → Closed (head kind flags (tokenFor tokens end p .pos) 0 0) p q l l′ r
+closed-at tokens end kind flags t p q r l l′ e c = rw e at c
+
+pub leafed-at : (tokens : List ℕ) (end kind flags : ℕ) (t : Token) (p r : Parsed) (l l′ : List ℕ) → t ≡ tokenFor tokens end p → Leafed (head kind flags (t .pos) 0 0) p l l′ r → Leafed (head kind flags (tokenFor tokens end p .pos) 0 0) p l l′ r
+leafed-at tokens end kind flags t p r l l′ e c = rw e at c
+
+-- ---- numbers that fit
+
+near-at : (p : Parsed) (i n k : ℕ) → Near p → p ≡ Accepted i n k → Below i n k
+unfolding Near
+near-at p i n k h e = subst (λ (x : Parsed). Near x) e h
+
+module _ (p : Parsed) (i n k : ℕ) (h : Near p) (e : p ≡ Accepted i n k) where
+  pub near-next : Fits w64 (i + 1)
+  near-next = omega (arith, near-at p i n k h e .at)
+
+  pub near-slot : Fits w64 (n + 1)
+  near-slot = omega (arith, near-at p i n k h e .slot)
+
+  pub near-row : Fits w64 (k + 1)
+  near-row = omega (arith, near-at p i n k h e .row)
+
+  pub near-here : Near (Accepted i n k)
+  unfolding Near
+  near-here = near-at p i n k h e
+
+pub small-count : (q : Parsed) (j m c : ℕ) → Small q → q ≡ Accepted j m c → Fits w16 c
 unfolding Small
-small-fits q j m c h e = let x : c < 65536 = subst (λ (y : Parsed). Small y) e h in omega arith
+small-count q j m c h e = let x : c < 65536 = subst (λ (y : Parsed). Small y) e h in omega arith
+
+pub small-none : (j m : ℕ) → Small (Accepted j m 0)
+unfolding Small
+small-none j m = omega arith

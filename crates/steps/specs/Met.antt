@@ -7,12 +7,13 @@ use lib.ListN.{length}
 use Rattle.trees.specs.Tree.{Tree, Trees, count, recordOf, recordsAll}
 use Rattle.trees.specs.declared.Head.{Head}
 use Rattle.records.specs.Slots.{put, writes}
-use Rattle.tokens.specs.Token.{tokenAt, isRparen}
+use Rattle.tokens.specs.declared.Token.{Token}
+use Rattle.tokens.specs.Token.{tokenAt, pastLast, isRparen}
 use Rattle.tokens.specs.Input.{Input, size}
 use Rattle.steps.specs.declared.Refusal.{Refusal}
 use Rattle.steps.specs.declared.Parsed.{Parsed}
 use Rattle.steps.specs.declared.Parsed.the-variants.{Accepted, Refused}
-use Rattle.steps.specs.Outcome.{Outcome, accept, refuse}
+use Rattle.steps.specs.Outcome.{Outcome, accept, refuse, Reader}
 
 -- the row ts, read up to token j, stands in the output from slot n on, after k trees of its row
 pub record Taken (ts : Trees) (j n k : ℕ) (l l′ : List ℕ) (next slot items : ℕ) : Type 0 where
@@ -28,13 +29,13 @@ Met (accept ts j) n k l l′ (Refused d) = ⊥
 Met (refuse e) n k l l′ (Accepted next slot items) = ⊥
 Met (refuse e) n k l l′ (Refused d) = d ≡ e
 
--- r is what reading f at the state p gives: a refusal stays as it is
-unfoldable pub Chained : (ℕ → Outcome) → Parsed → List ℕ → List ℕ → Parsed → Type 0
+-- the promise: r is what reading f at the state p gives, and a refusal stays as it is
+unfoldable pub Chained : Reader → Parsed → List ℕ → List ℕ → Parsed → Type 0
 Chained f (Accepted i n k) l l′ r = Met (f i) n k l l′ r
 Chained f (Refused e) l l′ r = r ≡ Refused e
 
 -- the same of an f that also takes how many trees stand in the row
-unfoldable pub ChainedAt : (ℕ → ℕ → Outcome) → Parsed → List ℕ → List ℕ → Parsed → Type 0
+unfoldable pub ChainedAt : (ℕ → Reader) → Parsed → List ℕ → List ℕ → Parsed → Type 0
 ChainedAt f (Accepted i n k) l l′ r = Met (f k i) n k l l′ r
 ChainedAt f (Refused e) l l′ r = r ≡ Refused e
 
@@ -43,14 +44,34 @@ unfoldable pub movedTo : ℕ → ℕ → Outcome → Parsed
 movedTo n k (accept ts j) = Accepted j n k
 movedTo n k (refuse e) = Refused e
 
-unfoldable pub moved : (ℕ → Outcome) → Parsed → Parsed
+unfoldable pub moved : Reader → Parsed → Parsed
 moved f (Accepted i n k) = movedTo n k (f i)
 moved f (Refused e) = Refused e
 
--- a node closed at slot n, after k trees of its row, over the children that q has read
-unfoldable pub Closed : Head → ℕ → ℕ → Parsed → List ℕ → List ℕ → Parsed → Type 0
-Closed h n k (Accepted j m c) l l′ r = (r ≡ Accepted j m (k + 1)) × (l′ ≡ put l n (recordOf h c))
-Closed h n k (Refused e) l l′ r = r ≡ Refused e
+-- the state in which a node's first child is read: its own record's slot is left free
+unfoldable pub inside : Parsed → Parsed
+inside (Accepted i n k) = Accepted i (n + 1) 0
+inside (Refused e) = Refused e
+
+-- the node h, begun at p, over the children that q has read
+unfoldable pub Closed : Head → Parsed → Parsed → List ℕ → List ℕ → Parsed → Type 0
+Closed h (Accepted i n k) (Accepted j m c) l l′ r = (r ≡ Accepted j m (k + 1)) × (l′ ≡ put l n (recordOf h c))
+Closed h (Accepted i n k) (Refused e) l l′ r = r ≡ Refused e
+Closed h (Refused e) q l l′ r = r ≡ Refused e
+
+-- the node h without children, of the one token at p
+unfoldable pub Leafed : Head → Parsed → List ℕ → List ℕ → Parsed → Type 0
+Leafed h (Accepted i n k) l l′ r = (r ≡ Accepted (i + 1) (n + 1) (k + 1)) × (l′ ≡ put l n (recordOf h 0))
+Leafed h (Refused e) l l′ r = r ≡ Refused e
+
+-- the next token, and the one after it
+unfoldable pub tokenFor : List ℕ → ℕ → Parsed → Token
+tokenFor tokens end (Accepted i n k) = tokenAt tokens end i
+tokenFor tokens end (Refused e) = pastLast end
+
+unfoldable pub secondFor : List ℕ → ℕ → Parsed → Token
+secondFor tokens end (Accepted i n k) = tokenAt tokens end (i + 1)
+secondFor tokens end (Refused e) = pastLast end
 
 -- whether a row goes on: nothing is refused, and the test says no stop
 unfoldable pub goesOn : (ℕ → Bool) → Parsed → Bool
@@ -61,26 +82,29 @@ goesOn stop (Refused e) = false
 abbrev pub endsAt : List ℕ → ℕ → ℕ → Bool
 endsAt tokens end i = isRparen (tokenAt tokens end i)
 
--- what a parse function may count on: the limits of document 01, and at most three records and one tree for each token, c more allowed
+-- what a parse function may count on: the limits of document 01, and at most three records and one tree for each token, c records more allowed
 pub record At (c : ℕ) (s : Input) (i n k : ℕ) : Type 0 where
   pub few : size s ≤ 16384
   pub short : length (s .text) ≤ 65536
   pub here : i ≤ size s
   pub room : n ≤ 3 * i + c
-  pub kids : k ≤ i + c
+  pub kids : k ≤ i + 16
   pub slack : c ≤ 16
 
 unfoldable pub Ready : ℕ → Input → Parsed → Type 0
 Ready c s (Accepted i n k) = At c s i n k
 Ready c s (Refused e) = Unit {0}
 
--- a row that a record's child count holds
-unfoldable pub Small : Parsed → Type 0
-Small (Accepted i n k) = k < 65536
-Small (Refused e) = Unit {0}
-
--- numbers that may be counted on
+-- numbers that may be counted on; a row that a record's child count holds
 pub record Below (i n k : ℕ) : Type 0 where
   pub at : i < 4294967296
   pub slot : n < 4294967296
-  pub row : k < 4294967296
+  pub row : k < 65536
+
+unfoldable pub Near : Parsed → Type 0
+Near (Accepted i n k) = Below i n k
+Near (Refused e) = Unit {0}
+
+unfoldable pub Small : Parsed → Type 0
+Small (Accepted i n k) = k < 65536
+Small (Refused e) = Unit {0}

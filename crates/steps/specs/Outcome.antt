@@ -1,18 +1,19 @@
--- What reading a part comes to, and how parts are put together. Each function of parser.rs is a definition from the index of the next token.
+-- Readers: what reading a part comes to, from the index of the next token, and how readers are put together.
+-- Each function of parser.rs is such a reader, under its name.
 use Prim.Native.Nat.{ℕ, zero, suc, _+_}
 use mathlib.Core.List.{List, [], _∷_}
 use mathlib.Core.Bool.{Bool, true, false}
 use lib.ListN.{getD}
 use lib.Dec.{eqb}
 use Rattle.trees.specs.Choice.{pick, choose}
-use Rattle.trees.specs.Tree.{Tree, Trees, node, ∅, _▸_, _⧺_, count}
+use Rattle.trees.specs.Tree.{Tree, Trees, node, ∅, _▸_, _⧺_, count, head}
 use Rattle.trees.specs.declared.Head.{Head}
 use Rattle.trees.specs.Ast.{Ident}
 use Rattle.trees.specs.Names.{spelled}
 use Rattle.tokens.specs.declared.Token.{Token}
-use Rattle.tokens.specs.Token.{tokenAt, isLparen, isRparen, isSymbol}
+use Rattle.tokens.specs.Token.{tokenAt, isLparen, isRparen, isSymbol, isAt, isWord}
 use Rattle.tokens.specs.Ident.{identRefusal}
-use Rattle.tokens.specs.Input.{Input, peek, posAt, size}
+use Rattle.tokens.specs.Input.{Input, peek, posAt}
 use Rattle.steps.specs.declared.Refusal.{Refusal}
 
 -- trees and the index of the next token, or a refusal
@@ -20,46 +21,81 @@ pub data Outcome : Type 0 where
   accept : Trees → ℕ → Outcome
   refuse : Refusal → Outcome
 
+abbrev pub Reader : Type 0
+Reader = ℕ → Outcome
+
 -- document 01's number and place, and how many tokens were consumed
 abbrev pub refusal : ℕ → ℕ → ℕ → Refusal
 refusal code place taken = record { code = code; place = place; taken = taken }
 
 -- ---- one part after another
 
--- nothing read yet
-abbrev pub begin : ℕ → Outcome
-begin i = accept ∅ i
-
+-- ts before what was read
 unfoldable pub before : Trees → Outcome → Outcome
 before ts (accept us j) = accept (ts ⧺ us) j
 before ts (refuse e) = refuse e
 
--- what was read, and then f
-infixl 50 _⊳_
-unfoldable pub _⊳_ : Outcome → (ℕ → Outcome) → Outcome
-accept ts i ⊳ f = before ts (f i)
-refuse e ⊳ f = refuse e
+unfoldable pub andThen : Outcome → Reader → Outcome
+andThen (accept ts i) g = before ts (g i)
+andThen (refuse e) g = refuse e
 
--- what was read, as the children of a node
+-- f, and then g
+infixl 50 _⊳_
+unfoldable pub _⊳_ : Reader → Reader → Reader
+f ⊳ g = λ i. andThen (f i) g
+
+-- what was read as the children of a node
 unfoldable pub nodeOf : Head → Outcome → Outcome
 nodeOf h (accept ts j) = accept (node h ts ▸ ∅) j
 nodeOf h (refuse e) = refuse e
 
--- the same where f also takes how many trees stand in the row, k of them before what was read
-unfoldable pub thenAt : ℕ → Outcome → (ℕ → ℕ → Outcome) → Outcome
+-- a node over what f reads, at the position of its first token
+unfoldable pub parent : Input → ℕ → ℕ → Reader → Reader
+parent s kind flags f = λ i. nodeOf (head kind flags (posAt s i) 0 0) (f i)
+
+-- a node without a position
+unfoldable pub bare : ℕ → Reader → Reader
+bare kind f = λ i. nodeOf (head kind 0 0 0 0) (f i)
+
+-- a node without children, of one token
+unfoldable pub leaf : Input → (Token → Head) → Reader
+leaf s h = λ i. accept (node (h (peek s i)) ∅ ▸ ∅) (i + 1)
+
+-- nothing
+unfoldable pub nothing : Reader
+nothing i = accept ∅ i
+
+-- a refusal at the next token
+unfoldable pub refuseFrom : List ℕ → ℕ → ℕ → Reader
+refuseFrom tokens end code i = refuse (refusal code (tokenAt tokens end i .pos) i)
+
+abbrev pub refuseAt : Input → ℕ → Reader
+refuseAt s code = refuseFrom (s .tokens) (s .end) code
+
+-- f or g by the next token, by the token after it
+unfoldable pub ifNext : Input → (Token → Bool) → Reader → Reader → Reader
+ifNext s test f g = λ i. choose (test (peek s i)) (λ _. f i) (λ _. g i)
+
+unfoldable pub ifSecond : Input → (Token → Bool) → Reader → Reader → Reader
+ifSecond s test f g = λ i. choose (test (peek s (i + 1))) (λ _. f i) (λ _. g i)
+
+-- ---- rows of items
+
+-- what was read, and then f, which takes how many trees stand in the row, k of them before
+unfoldable pub thenAt : ℕ → Outcome → (ℕ → Reader) → Outcome
 thenAt k (accept ts i) f = before ts (f (k + count ts) i)
 thenAt k (refuse e) f = refuse e
 
 -- items until the test says stop, after k trees of the row. The number before k bounds them.
-unfoldable pub itemsFrom : (ℕ → Bool) → (ℕ → ℕ → Outcome) → ℕ → ℕ → ℕ → Outcome
+unfoldable pub itemsFrom : (ℕ → Bool) → (ℕ → Reader) → ℕ → ℕ → Reader
 itemsFrom stop f zero k i = refuse (refusal 0 0 0)
-itemsFrom stop f (suc n) k i = choose (stop i) (λ _. begin i) (λ _. thenAt k (f k i) (itemsFrom stop f n))
+itemsFrom stop f (suc n) k i = choose (stop i) (λ _. accept ∅ i) (λ _. thenAt k (f k i) (itemsFrom stop f n))
 
 -- there are no more items than tokens
-unfoldable pub manyAt : ℕ → (ℕ → Bool) → (ℕ → ℕ → Outcome) → ℕ → ℕ → Outcome
+unfoldable pub manyAt : ℕ → (ℕ → Bool) → (ℕ → Reader) → ℕ → Reader
 manyAt tokens stop f k i = itemsFrom stop f (suc tokens) k i
 
-unfoldable pub many : ℕ → (ℕ → Bool) → (ℕ → Outcome) → ℕ → Outcome
+unfoldable pub many : ℕ → (ℕ → Bool) → Reader → Reader
 many tokens stop f i = manyAt tokens stop (λ _. f) 0 i
 
 -- ---- tokens and names
@@ -68,32 +104,38 @@ many tokens stop f i = manyAt tokens stop (λ _. f) 0 i
 unfoldable pub unexpected : Token → ℕ → Refusal
 unexpected t i = refusal (pick (eqb (t .kind) 0) 11 10) (t .pos) i
 
-unfoldable pub expectAt : List ℕ → ℕ → (Token → Bool) → ℕ → Outcome
-expectAt tokens end test i = choose (test (tokenAt tokens end i)) (λ _. begin (i + 1)) (λ _. refuse (unexpected (tokenAt tokens end i) i))
+unfoldable pub expectAt : List ℕ → ℕ → (Token → Bool) → Reader
+expectAt tokens end test i = choose (test (tokenAt tokens end i)) (λ _. accept ∅ (i + 1)) (λ _. refuse (unexpected (tokenAt tokens end i) i))
 
-abbrev pub expect-lparen : Input → ℕ → Outcome
+abbrev pub expect-lparen : Input → Reader
 expect-lparen s = expectAt (s .tokens) (s .end) isLparen
 
-abbrev pub expect-rparen : Input → ℕ → Outcome
+abbrev pub expect-rparen : Input → Reader
 expect-rparen s = expectAt (s .tokens) (s .end) isRparen
 
+abbrev pub expect-at : Input → Reader
+expect-at s = expectAt (s .tokens) (s .end) isAt
+
+abbrev pub expect-word : Input → List ℕ → Reader
+expect-word s w = expectAt (s .tokens) (s .end) (isWord (s .text) w)
+
 -- the token t at index i as an Ident of this range, or the refusal c where that is not 0
-unfoldable pub identAt : Token → ℕ → ℕ → ℕ → Outcome
+unfoldable pub identAt : Token → ℕ → ℕ → Reader
 identAt t range c i = pick (eqb c 0) (accept (Ident (t .pos) range ▸ ∅) (i + 1)) (refuse (refusal c (t .pos) (i + 1)))
 
 -- a symbol, of which `judge` tells the refusal (0 none) and `range` the part that is the name
-unfoldable pub nameBy : Input → (List ℕ → ℕ) → (ℕ → ℕ) → ℕ → Outcome
+unfoldable pub nameBy : Input → (List ℕ → ℕ) → (ℕ → ℕ) → Reader
 nameBy s judge range i =
     choose (isSymbol (peek s i))
     (λ _. identAt (peek s i) (range (peek s i .word1)) (judge (spelled (s .text) (peek s i .word1))) i)
     (λ _. refuse (unexpected (peek s i) i))
 
-unfoldable pub parseIdent : Input → ℕ → Outcome
+unfoldable pub parseIdent : Input → Reader
 parseIdent s i = nameBy s identRefusal (λ w. w) i
 
 -- a constant is an identifier that starts with `$`, which is cut off: the start is one more, the length one less
 unfoldable pub constRefusal : List ℕ → ℕ
 constRefusal b = pick (eqb (identRefusal b) 0) (pick (eqb (getD b 0 0) 36) 0 16) (identRefusal b)
 
-unfoldable pub parseConst : Input → ℕ → Outcome
+unfoldable pub parseConst : Input → Reader
 parseConst s i = nameBy s constRefusal (λ w. w + 4294967295) i

@@ -10,10 +10,11 @@ use trees::Rec;
 ghost use mathlib.Core.Path.{_≡_};
 ghost use Prim.Native.Nat.{ℕ, _+_, _*_, _/_, _≤_, _<_};
 ghost use lib.ListN.{length};
-ghost use Rattle.tokens.specs.Token.{tokenAt, isLparen, isRparen, isAt};
+ghost use Rattle.trees.specs.Tree.{head};
+ghost use Rattle.tokens.specs.Token.{tokenAt, pastLast, isLparen, isRparen, isAt, isWord};
 ghost use Rattle.tokens.specs.Input.{Input, input};
-ghost use Rattle.steps.specs.Outcome.{unexpected, expectAt, constRefusal, identAt, parseIdent, parseConst};
-ghost use Rattle.steps.specs.Met.{Ready, moved, goesOn, endsAt, Chained, Closed, Met, Small, Below};
+ghost use Rattle.steps.specs.Outcome.{unexpected, expectAt, refuseFrom, constRefusal, identAt, parseIdent, parseConst};
+ghost use Rattle.steps.specs.Met.{Met, Chained, moved, inside, Closed, Leafed, tokenFor, secondFor, goesOn, endsAt, Ready, Below, Near, Small};
 
 // Where reading stopped, and why: document 01's number and place, and how many tokens were consumed.
 pub struct Refusal {
@@ -82,6 +83,73 @@ pub fn expect_rparen(tokens: &[u8], end: u32, p: Parsed) -> Parsed
         };
     }
     Parsed::Refused(unexpected(t, next))
+}
+
+pub fn expect_at(tokens: &[u8], end: u32, p: Parsed) -> Parsed
+    ensures { λ r. ⌜ r ≡ moved (expectAt (now (tokens .entry)) end isAt) p ⌝ }
+{
+    let Parsed::Accepted { next, count, items } = p else {
+        return p;
+    };
+    let t = peek(tokens, end, next);
+    if t.is_at() {
+        return Parsed::Accepted {
+            next: next + 1,
+            count,
+            items,
+        };
+    }
+    Parsed::Refused(unexpected(t, next))
+}
+
+// eat_sym_str of the Rust, where the symbol w is known to stand.
+pub fn expect_word(tokens: &[u8], text: &[u8], end: u32, p: Parsed, w: &[u8]) -> Parsed
+    ensures { λ r. ⌜ r ≡ moved (expectAt (now (tokens .entry)) end (isWord (now (text .entry)) (now (w .entry)))) p ⌝ }
+{
+    let Parsed::Accepted { next, count, items } = p else {
+        return p;
+    };
+    let t = peek(tokens, end, next);
+    if t.is_word(text, w) {
+        return Parsed::Accepted {
+            next: next + 1,
+            count,
+            items,
+        };
+    }
+    Parsed::Refused(unexpected(t, next))
+}
+
+// The next token; past the last one where reading was refused.
+pub fn next_token(tokens: &[u8], end: u32, p: Parsed) -> Token
+    ensures { λ r. ⌜ r ≡ tokenFor (now (tokens .entry)) end p ⌝ }
+{
+    let Parsed::Accepted { next, count: _, items: _ } = p else {
+        return past_last(end);
+    };
+    peek(tokens, end, next)
+}
+
+// The token after the next one.
+pub fn second_token(tokens: &[u8], end: u32, p: Parsed) -> Token
+    requires { ⌜ Near p ⌝ }
+    ensures { λ r. ⌜ r ≡ secondFor (now (tokens .entry)) end p ⌝ }
+{
+    let Parsed::Accepted { next, count: _, items: _ } = p else {
+        return past_last(end);
+    };
+    peek(tokens, end, next + 1)
+}
+
+fn past_last(end: u32) -> Token
+    ensures { λ r. ⌜ r ≡ pastLast end ⌝ }
+{
+    Token {
+        kind: Token::NONE,
+        pos: end,
+        word1: 0,
+        word2: 0,
+    }
 }
 
 // Whether a row of items goes on: nothing is refused, and no `)` stands next.
@@ -186,12 +254,30 @@ pub fn parse_const(tokens: &[u8], text: &[u8], end: u32, out: &mut [u8], p: Pars
     Parsed::Refused(unexpected(t, next))
 }
 
-// The node h over the children that q has read, at slot n after `items` trees of its row.
-pub fn close(out: &mut [u8], n: usize, items: usize, h: Head, q: Parsed) -> Parsed
-    requires { ⌜ Small q ⌝ }
-    requires { ⌜ items < 4294967296 ⌝ }
-    ensures { λ r. ⌜ Closed h n items q (now (out .entry)) (now (out .exit)) r ⌝ }
+// The state in which a node's first child is read.
+pub fn inside(p: Parsed) -> Parsed
+    requires { ⌜ Near p ⌝ }
+    ensures { λ r. ⌜ r ≡ inside p ⌝ }
 {
+    let Parsed::Accepted { next, count, items: _ } = p else {
+        return p;
+    };
+    Parsed::Accepted {
+        next,
+        count: count + 1,
+        items: 0,
+    }
+}
+
+// The node h, begun at p, over the children that q has read.
+pub fn close(out: &mut [u8], p: Parsed, h: Head, q: Parsed) -> Parsed
+    requires { ⌜ Near p ⌝ }
+    requires { ⌜ Small q ⌝ }
+    ensures { λ r. ⌜ Closed h p q (now (out .entry)) (now (out .exit)) r ⌝ }
+{
+    let Parsed::Accepted { next: _, count: n, items } = p else {
+        return p;
+    };
     let Parsed::Accepted { next, count, items: k } = q else {
         return q;
     };
@@ -212,4 +298,88 @@ pub fn close(out: &mut [u8], n: usize, items: usize, h: Head, q: Parsed) -> Pars
         count,
         items: items + 1,
     }
+}
+
+// The same for a node without words, at the position of its first token.
+pub fn close_at(
+    tokens: &[u8],
+    end: u32,
+    out: &mut [u8],
+    p: Parsed,
+    kind: u8,
+    flags: u8,
+    q: Parsed,
+) -> Parsed
+    requires { ⌜ Near p ⌝ }
+    requires { ⌜ Small q ⌝ }
+    ensures { λ r. ⌜ Closed (head kind flags (tokenFor (now (tokens .entry)) end p .pos) 0 0) p q (now (out .entry)) (now (out .exit)) r ⌝ }
+{
+    let pos = next_token(tokens, end, p).pos;
+    let h = Head {
+        kind,
+        flags,
+        pos,
+        word1: 0,
+        word2: 0,
+    };
+    close(out, p, h, q)
+}
+
+// A node without children, of one token.
+pub fn put_leaf(out: &mut [u8], p: Parsed, h: Head) -> Parsed
+    requires { ⌜ Near p ⌝ }
+    ensures { λ r. ⌜ Leafed h p (now (out .entry)) (now (out .exit)) r ⌝ }
+{
+    let Parsed::Accepted { next, count, items } = p else {
+        return p;
+    };
+    let q = Parsed::Accepted {
+        next: next + 1,
+        count: count + 1,
+        items: 0,
+    };
+    close(
+        out,
+        Parsed::Accepted { next, count, items },
+        h,
+        q,
+    )
+}
+
+// The same without words.
+pub fn leaf_at(
+    tokens: &[u8],
+    end: u32,
+    out: &mut [u8],
+    p: Parsed,
+    kind: u8,
+    flags: u8,
+) -> Parsed
+    requires { ⌜ Near p ⌝ }
+    ensures { λ r. ⌜ Leafed (head kind flags (tokenFor (now (tokens .entry)) end p .pos) 0 0) p (now (out .entry)) (now (out .exit)) r ⌝ }
+{
+    let pos = next_token(tokens, end, p).pos;
+    let h = Head {
+        kind,
+        flags,
+        pos,
+        word1: 0,
+        word2: 0,
+    };
+    put_leaf(out, p, h)
+}
+
+// A refusal at the next token.
+pub fn refuse_at(tokens: &[u8], end: u32, p: Parsed, code: u8) -> Parsed
+    ensures { λ r. ⌜ r ≡ moved (refuseFrom (now (tokens .entry)) end code) p ⌝ }
+{
+    let Parsed::Accepted { next, count: _, items: _ } = p else {
+        return p;
+    };
+    let place = peek(tokens, end, next).pos;
+    Parsed::Refused(Refusal {
+        code,
+        place,
+        taken: next,
+    })
 }

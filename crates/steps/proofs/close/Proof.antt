@@ -1,33 +1,53 @@
-use Rattle.steps.proofs.StepLaws.{closed-stays, closed-put, small-fits}
+use Rattle.steps.proofs.StepLaws.{closed-outer, closed-inner, closed-put, small-count, near-row}
 use borrow.Author.Needs.{needs}
 use Rattle.steps.proofs.close.Statement.{statement}
 use Rattle.steps.proofs.close.Tie as tie
 
-enum-known-q : tie.Need-enum-known-q
-enum-known-q c = search needs
+enum-known-p : tie.Need-enum-known-p
+enum-known-p c = search needs
 
 enum-told : tie.Need-enum-told
 enum-told c = search needs
 
 returns : tie.Need-returns
-returns c = search closed-stays
+returns c = search closed-outer
 
-cast-t12 : tie.Need-cast-t12
-cast-t12 c = search small-fits
+enum-known-q : tie.Need-enum-known-q
+enum-known-q c = search needs
+
+enum-told-2 : tie.Need-enum-told-2
+enum-told-2 c = search needs
+
+returns-2 : tie.Need-returns-2
+returns-2 c = search closed-inner
+
+cast-t13 : tie.Need-cast-t13
+cast-t13 c = search small-count
 
 put-requires : tie.Need-put-requires
 put-requires c κs = search needs
 
-add-t14 : tie.Need-add-t14
-add-t14 c = search needs
+add-t15 : tie.Need-add-t15
+add-t15 c = search near-row
 
 same-length : tie.Need-same-length
 same-length c = search needs
 
-returns-2 : tie.Need-returns-2
-returns-2 c = search closed-put
+returns-3 : tie.Need-returns-3
+returns-3 c = search closed-put
 
 pub close-spec : {M : Type 1} → statement M
 close-spec =
     tie.close
-    (tie.spec enum-known-q enum-told returns cast-t12 put-requires add-t14 same-length returns-2)
+    (tie.spec
+    enum-known-p
+    enum-told
+    returns
+    enum-known-q
+    enum-told-2
+    returns-2
+    cast-t13
+    put-requires
+    add-t15
+    same-length
+    returns-3)

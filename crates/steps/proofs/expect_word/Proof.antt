@@ -1,0 +1,45 @@
+use Rattle.steps.proofs.StepLaws.{moved-stays, word-fits, expect-met, expect-refused}
+use borrow.Author.Needs.{needs}
+use Rattle.steps.proofs.expect_word.Statement.{statement}
+use Rattle.steps.proofs.expect_word.Tie as tie
+
+enum-known-p : tie.Need-enum-known-p
+enum-known-p c = search needs
+
+enum-told : tie.Need-enum-told
+enum-told c = search needs
+
+returns : tie.Need-returns
+returns c = search moved-stays
+
+peek-requires : tie.Need-peek-requires
+peek-requires c κs = search needs
+
+is-word-requires : tie.Need-is-word-requires
+is-word-requires c κs = search needs
+
+add-t11 : tie.Need-add-t11
+add-t11 c = search word-fits
+
+returns-2 : tie.Need-returns-2
+returns-2 c = search expect-met
+
+unexpected-requires : tie.Need-unexpected-requires
+unexpected-requires c κs = search needs
+
+returns-3 : tie.Need-returns-3
+returns-3 c = search expect-refused
+
+pub expect-word-spec : {M : Type 1} → statement M
+expect-word-spec =
+    tie.close
+    (tie.spec
+    enum-known-p
+    enum-told
+    returns
+    peek-requires
+    is-word-requires
+    add-t11
+    returns-2
+    unexpected-requires
+    returns-3)
