@@ -179,3 +179,9 @@ module _ (test : Token → Bool) (tokens text : List ℕ) (end : ℕ) (f g : Rea
   pub second-no : t ≡ secondFor tokens end p → b ≡ test t → b ≡ false → Chained g p l l′ r → Chained (ifSecond (input tokens text end) test f g) p l l′ r
   unfolding ifSecond
   second-no a e c m = agree (λ i. choose (test (tokenAt tokens end (i + 1))) (λ _. f i) (λ _. g i)) g p r l l′ (λ i n k z. rw (second-is i n k z a e, c)) m
+
+pub leaf-here : (tokens text : List ℕ) (end : ℕ) (h : Token → Head) (p r : Parsed) (l l′ : List ℕ) → Leafed (h (tokenFor tokens end p)) p l l′ r → Chained (leaf (input tokens text end) h) p l l′ r
+leaf-here tokens text end h p r l l′ c = leaf-read tokens text end h (h (tokenFor tokens end p)) p r l l′ c refl
+
+pub leaf-by : (tokens text : List ℕ) (end : ℕ) (h : Token → Head) (t : Token) (p r : Parsed) (l l′ : List ℕ) → t ≡ tokenFor tokens end p → Leafed (h t) p l l′ r → Chained (leaf (input tokens text end) h) p l l′ r
+leaf-by tokens text end h t p r l l′ e c = leaf-read tokens text end h (h t) p r l l′ c (ap h e)

@@ -16,7 +16,7 @@ use Rattle.steps.specs.declared.Parsed.the-variants.{Accepted, Refused}
 use Rattle.steps.specs.Outcome.{Outcome, accept, refuse, Reader, refusal, before, nothing, thenAt, itemsFrom, manyAt, many}
 use Rattle.steps.specs.Met.{Taken, Met, Chained, ChainedAt, goesOn, At, Ready}
 use Rattle.steps.proofs.MetLaws.{begun, chain-at, plain-at}
-use Rattle.steps.proofs.SizeLaws.{Fit, Sized, Bounded, BoundedAt, plain-bounded, nothing-bounded, sized-refuse, sized-accept, sized-choose}
+use Rattle.steps.proofs.SizeLaws.{Fit, Sized, Bounded, BoundedAt, Steady, Item, plain-bounded, nothing-bounded, sized-refuse, sized-accept, sized-choose}
 
 -- ---- the bound
 
@@ -147,16 +147,16 @@ unfolding ChainedAt Chained many manyAt
 plain-row s stop f (Accepted i n k) r l l′ h = rw (same-row stop f (suc (size s)) 0 k i) h
 plain-row s stop f (Refused e) r l l′ h = h
 
-pub row-plain-bounded : (s : Input) (stop : ℕ → Bool) (f : ℕ → Outcome) (c : ℕ) → Bounded 1 c 0 s f → Bounded 0 0 0 s (many (size s) stop f)
+pub row-steady : (s : Input) (stop : ℕ → Bool) (f : Reader) → Item s f → Steady s (many (size s) stop f)
 unfolding many
-row-plain-bounded s stop f c g = record { sized = λ i. row-bounded stop (λ _. f) s c 0 (plain-bounded 1 c 0 s f g) refl .sized 0 i }
+row-steady s stop f g = record { sized = λ i. row-bounded stop (λ _. f) s 0 0 (plain-bounded 1 0 0 s f g) refl .sized 0 i }
 
 -- a row of plain items, in the words of the code
-pub row-going : (s : Input) (stop : ℕ → Bool) (f : ℕ → Outcome) (p q q₂ : Parsed) (l l₁ l₂ : List ℕ) (c e : ℕ) (x : Bool) → Chained f q l₁ l₂ q₂ → Going s stop (λ _. f) p l q l₁ → x ≡ goesOn stop q → x ≡ true → Bounded 1 c 0 s f → Ready e s q → Going s stop (λ _. f) p l q₂ l₂
-row-going s stop f p q q₂ l l₁ l₂ c e x h w t v g a = going-on s stop (λ _. f) p q q₂ l l₁ l₂ c 0 e x (plain-at f q l₁ l₂ q₂ h) w t v (plain-bounded 1 c 0 s f g) a
+pub row-going : (s : Input) (stop : ℕ → Bool) (f : Reader) (p q q₂ : Parsed) (l l₁ l₂ : List ℕ) (e : ℕ) (x : Bool) → Chained f q l₁ l₂ q₂ → Going s stop (λ _. f) p l q l₁ → x ≡ goesOn stop q → x ≡ true → Item s f → Ready e s q → Going s stop (λ _. f) p l q₂ l₂
+row-going s stop f p q q₂ l l₁ l₂ e x h w t v g a = going-on s stop (λ _. f) p q q₂ l l₁ l₂ 0 0 e x (plain-at f q l₁ l₂ q₂ h) w t v (plain-bounded 1 0 0 s f g) a
 
-pub row-falls : (s : Input) (stop : ℕ → Bool) (f : ℕ → Outcome) (q r : Parsed) (l l′ : List ℕ) (c e : ℕ) (x : Bool) → Chained f q l l′ r → x ≡ goesOn stop q → x ≡ true → Bounded 1 c 0 s f → Ready e s q → left s r < left s q
-row-falls s stop f q r l l′ c e x h t v g a = left-falls s stop (λ _. f) q r l l′ c e x (plain-at f q l l′ r h) t v (plain-bounded 1 c 0 s f g) a
+pub row-falls : (s : Input) (stop : ℕ → Bool) (f : Reader) (q r : Parsed) (l l′ : List ℕ) (e : ℕ) (x : Bool) → Chained f q l l′ r → x ≡ goesOn stop q → x ≡ true → Item s f → Ready e s q → left s r < left s q
+row-falls s stop f q r l l′ e x h t v g a = left-falls s stop (λ _. f) q r l l′ 0 e x (plain-at f q l l′ r h) t v (plain-bounded 1 0 0 s f g) a
 
-pub row-met : (s : Input) (stop : ℕ → Bool) (f : ℕ → Outcome) (p q : Parsed) (l l₁ : List ℕ) (x : Bool) → Going s stop (λ _. f) p l q l₁ → x ≡ goesOn stop q → x ≡ false → Chained (many (size s) stop f) p l l₁ q
+pub row-met : (s : Input) (stop : ℕ → Bool) (f : Reader) (p q : Parsed) (l l₁ : List ℕ) (x : Bool) → Going s stop (λ _. f) p l q l₁ → x ≡ goesOn stop q → x ≡ false → Chained (many (size s) stop f) p l l₁ q
 row-met s stop f p q l l₁ x w t v = plain-row s stop f p q l l₁ (going-end s stop (λ _. f) p q l l₁ x w t v)

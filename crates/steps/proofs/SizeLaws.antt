@@ -114,6 +114,19 @@ bare-bounded u c d u′ c′ d′ s kind f p q r b = record { sized = λ i. size
 pub less-bounded : (u c d u′ c′ d′ : ℕ) (s : Input) (f : Reader) → u′ ≤ u → c′ + d ≤ c + d′ → d ≤ d′ → Bounded u c d s f → Bounded u′ c′ d′ s f
 less-bounded u c d u′ c′ d′ s f p q r b = record { sized = λ i. sized-less u c d u′ c′ d′ s i (f i) p q r (b .sized i) }
 
+-- a reader that makes no more records than its tokens allow; an item of a row, which also takes a token
+abbrev pub Steady : Input → Reader → Type 0
+Steady s f = Bounded 0 0 0 s f
+
+abbrev pub Item : Input → Reader → Type 0
+Item s f = Bounded 1 0 0 s f
+
+pub steady : (u c : ℕ) (s : Input) (f : Reader) → Bounded u c 0 s f → Steady s f
+steady u c s f b = less-bounded u c 0 0 0 0 s f (omega arith) (omega arith) (omega arith) b
+
+pub item : (c : ℕ) (s : Input) (f : Reader) → Bounded 1 c 0 s f → Item s f
+item c s f b = less-bounded 1 c 0 1 0 0 s f (omega arith) (omega arith) (omega arith) b
+
 -- a choice
 pub sized-choose : (u c d : ℕ) (s : Input) (i : ℕ) (b : Bool) (f g : Unit {0} → Outcome) → (b ≡ true → Sized u c d s i (f tt)) → (b ≡ false → Sized u c d s i (g tt)) → Sized u c d s i (choose b f g)
 sized-choose u c d s i true f g p q = p refl
@@ -221,9 +234,18 @@ pub ident-bounded : (s : Input) → Bounded 1 2 0 s (parseIdent s)
 unfolding parseIdent
 ident-bounded s = record { sized = name-sized s identRefusal (λ w. w) }
 
+pub ident-steady : (s : Input) → Steady s (parseIdent s)
+ident-steady s = steady 1 2 s (parseIdent s) (ident-bounded s)
+
+pub ident-item : (s : Input) → Item s (parseIdent s)
+ident-item s = item 2 s (parseIdent s) (ident-bounded s)
+
 pub const-bounded : (s : Input) → Bounded 1 2 0 s (parseConst s)
 unfolding parseConst
 const-bounded s = record { sized = name-sized s constRefusal (λ w. w + 4294967295) }
+
+pub const-steady : (s : Input) → Steady s (parseConst s)
+const-steady s = steady 1 2 s (parseConst s) (const-bounded s)
 
 -- ---- states
 
@@ -254,32 +276,32 @@ module _ (c c′ b : ℕ) (x : c ≤ c′ + b) (y : c′ ≤ 16) where
   ready-met u s i n k (refuse e) l l′ (Refused d) z a h = tt
 
   -- the state after a part, with the slack that the part leaves
-  pub ready-less : (f : ℕ → Outcome) (q : Parsed) (l l′ : List ℕ) (r : Parsed) (u : ℕ) (s : Input) → Chained f q l l′ r → Bounded u b 0 s f → Ready c s q → Ready c′ s r
+  pub ready-less : (f : Reader) (q : Parsed) (l l′ : List ℕ) (r : Parsed) (s : Input) → Chained f q l l′ r → Bounded 1 b 0 s f → Ready c s q → Ready c′ s r
   unfolding Chained Ready
-  ready-less f (Accepted i n k) l l′ r u s h g a = ready-met u s i n k (f i) l l′ r (g .sized i) a h
-  ready-less f (Refused e) l l′ r u s h g a = rw h tt
+  ready-less f (Accepted i n k) l l′ r s h g a = ready-met 1 s i n k (f i) l l′ r (g .sized i) a h
+  ready-less f (Refused e) l l′ r s h g a = rw h tt
 
 -- the state after a part
-pub ready-after : (f : ℕ → Outcome) (q : Parsed) (l l′ : List ℕ) (r : Parsed) (c u b : ℕ) (s : Input) → Chained f q l l′ r → Bounded u b 0 s f → Ready c s q → Ready c s r
+pub ready-after : (f : Reader) (q : Parsed) (l l′ : List ℕ) (r : Parsed) (c : ℕ) (s : Input) → Chained f q l l′ r → Steady s f → Ready c s q → Ready c s r
 unfolding Chained Ready
-ready-after f (Accepted i n k) l l′ r c u b s h g a = ready-met c c b (omega arith) (a .slack) u s i n k (f i) l l′ r (g .sized i) a h
-ready-after f (Refused e) l l′ r c u b s h g a = rw h tt
+ready-after f (Accepted i n k) l l′ r c s h g a = ready-met c c 0 (omega arith) (a .slack) 0 s i n k (f i) l l′ r (g .sized i) a h
+ready-after f (Refused e) l l′ r c s h g a = rw h tt
 
-pub ready-after-at : (f : ℕ → ℕ → Outcome) (q : Parsed) (l l′ : List ℕ) (r : Parsed) (c u b : ℕ) (s : Input) → ChainedAt f q l l′ r → BoundedAt u b 0 s f → Ready c s q → Ready c s r
+pub ready-after-at : (f : ℕ → Reader) (q : Parsed) (l l′ : List ℕ) (r : Parsed) (c : ℕ) (s : Input) → ChainedAt f q l l′ r → BoundedAt 0 0 0 s f → Ready c s q → Ready c s r
 unfolding ChainedAt Ready
-ready-after-at f (Accepted i n k) l l′ r c u b s h g a = ready-met c c b (omega arith) (a .slack) u s i n k (f k i) l l′ r (g .sized k i) a h
-ready-after-at f (Refused e) l l′ r c u b s h g a = rw h tt
+ready-after-at f (Accepted i n k) l l′ r c s h g a = ready-met c c 0 (omega arith) (a .slack) 0 s i n k (f k i) l l′ r (g .sized k i) a h
+ready-after-at f (Refused e) l l′ r c s h g a = rw h tt
 
 -- the state after a token, with the slack that it leaves or as before
 pub ready-token-less : (c c′ : ℕ) → c ≤ c′ + 3 → c′ ≤ 16 → (tokens text : List ℕ) (end : ℕ) (test : Token → Bool) (q r : Parsed) → r ≡ moved (expectAt tokens end test) q → Kinded test → Ready c (input tokens text end) q → Ready c′ (input tokens text end) r
 ready-token-less c c′ x y tokens text end test q r e k a =
     let s = input tokens text end in
-    ready-less c c′ 3 x y (expectAt tokens end test) q [] [] r 1 s (token tokens end test q r [] e) (expect-bounded s test k) a
+    ready-less c c′ 3 x y (expectAt tokens end test) q [] [] r s (token tokens end test q r [] e) (expect-bounded s test k) a
 
 pub ready-token : (tokens text : List ℕ) (end : ℕ) (test : Token → Bool) (q r : Parsed) (c : ℕ) → r ≡ moved (expectAt tokens end test) q → Kinded test → Ready c (input tokens text end) q → Ready c (input tokens text end) r
 ready-token tokens text end test q r c e k a =
     let s = input tokens text end in
-    ready-after (expectAt tokens end test) q [] [] r c 1 3 s (token tokens end test q r [] e) (expect-bounded s test k) a
+    ready-after (expectAt tokens end test) q [] [] r c s (token tokens end test q r [] e) (steady 1 3 s (expectAt tokens end test) (expect-bounded s test k)) a
 
 pub small-ready : (c : ℕ) (s : Input) (q : Parsed) → Ready c s q → Small q
 unfolding Ready Small
@@ -296,3 +318,18 @@ pub ready-more : (c c′ : ℕ) → c ≤ c′ → c′ ≤ 16 → (s : Input) (
 unfolding Ready
 ready-more c c′ x y s (Accepted i n k) a = record { few = a .few; short = a .short; here = a .here; room = omega (arith, a .room); kids = a .kids; slack = y }
 ready-more c c′ x y s (Refused e) a = tt
+
+-- rows that a record's child count holds, in the words of the code
+-- (a state of the function's own tells which input is read)
+pub small-after : (c : ℕ) (f : Reader) (q r : Parsed) (l l′ : List ℕ) (d : ℕ) (s : Input) (p : Parsed) → Chained f q l l′ r → Ready d s p → Steady s f → Ready c s q → Small r
+small-after c f q r l l′ d s p h z g a = small-ready c s r (ready-after f q l l′ r c s h g a)
+
+small-token : (tokens : List ℕ) (end : ℕ) (test : Token → Bool) (i n k : ℕ) → Small (Accepted i n k) → (b : Bool) → test (tokenAt tokens end i) ≡ b → Small (movedTo n k (expectAt tokens end test i))
+unfolding Small movedTo expectAt
+small-token tokens end test i n k h true e = rw e h
+small-token tokens end test i n k h false e = rw e tt
+
+pub small-moved : (tokens : List ℕ) (end : ℕ) (test : Token → Bool) (q r : Parsed) → r ≡ moved (expectAt tokens end test) q → Small q → Small r
+unfolding moved
+small-moved tokens end test (Accepted i n k) r e h = rw e (small-token tokens end test i n k h (test (tokenAt tokens end i)) refl)
+small-moved tokens end test (Refused d) r e h = rw e h

@@ -1,2 +1,3 @@
+pub mod Keywords
 pub mod Outcome
 pub mod Met

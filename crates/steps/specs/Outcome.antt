@@ -13,7 +13,7 @@ use Rattle.trees.specs.Names.{spelled}
 use Rattle.tokens.specs.declared.Token.{Token}
 use Rattle.tokens.specs.Token.{tokenAt, isLparen, isRparen, isSymbol, isAt, isWord}
 use Rattle.tokens.specs.Ident.{identRefusal}
-use Rattle.tokens.specs.Input.{Input, peek, posAt}
+use Rattle.tokens.specs.Input.{Input, peek, posAt, size}
 use Rattle.steps.specs.declared.Refusal.{Refusal}
 
 -- trees and the index of the next token, or a refusal
@@ -61,6 +61,10 @@ bare kind f = λ i. nodeOf (head kind 0 0 0 0) (f i)
 unfoldable pub leaf : Input → (Token → Head) → Reader
 leaf s h = λ i. accept (node (h (peek s i)) ∅ ▸ ∅) (i + 1)
 
+-- the head of a leaf without words
+abbrev pub plain : ℕ → ℕ → Token → Head
+plain kind flags t = head kind flags (t .pos) 0 0
+
 -- nothing
 unfoldable pub nothing : Reader
 nothing i = accept ∅ i
@@ -97,6 +101,10 @@ manyAt tokens stop f k i = itemsFrom stop f (suc tokens) k i
 
 unfoldable pub many : ℕ → (ℕ → Bool) → Reader → Reader
 many tokens stop f i = manyAt tokens stop (λ _. f) 0 i
+
+-- items up to a `)`, which is left
+abbrev pub row : Input → Reader → Reader
+row s f = many (size s) (λ i. isRparen (peek s i)) f
 
 -- ---- tokens and names
 

@@ -13,7 +13,7 @@ ghost use lib.ListN.{length};
 ghost use Rattle.trees.specs.Tree.{head};
 ghost use Rattle.tokens.specs.Token.{tokenAt, pastLast, isLparen, isRparen, isAt, isWord};
 ghost use Rattle.tokens.specs.Input.{Input, input};
-ghost use Rattle.steps.specs.Outcome.{unexpected, expectAt, refuseFrom, constRefusal, identAt, parseIdent, parseConst};
+ghost use Rattle.steps.specs.Outcome.{parent, unexpected, expectAt, refuseFrom, constRefusal, identAt, parseIdent, parseConst};
 ghost use Rattle.steps.specs.Met.{Met, Chained, moved, inside, Closed, Leafed, tokenFor, secondFor, goesOn, endsAt, Ready, Below, Near, Small};
 
 // Where reading stopped, and why: document 01's number and place, and how many tokens were consumed.
@@ -382,4 +382,37 @@ pub fn refuse_at(tokens: &[u8], end: u32, p: Parsed, code: u8) -> Parsed
         place,
         taken: next,
     })
+}
+
+// A node over one name, over the name of a constant.
+pub fn ident_node(
+    tokens: &[u8],
+    text: &[u8],
+    end: u32,
+    out: &mut [u8],
+    p: Parsed,
+    kind: u8,
+) -> Parsed
+    requires { ⌜ Ready 3 (input (now tokens) (now text) end) p ⌝ }
+    ensures { λ r. ⌜ Chained (parent (input (now (tokens .entry)) (now (text .entry)) end) kind 0 (parseIdent (input (now (tokens .entry)) (now (text .entry)) end))) p (now (out .entry)) (now (out .exit)) r ⌝ }
+{
+    let children = inside(p);
+    let q = parse_ident(tokens, text, end, out, children);
+    close_at(tokens, end, out, p, kind, 0, q)
+}
+
+pub fn const_node(
+    tokens: &[u8],
+    text: &[u8],
+    end: u32,
+    out: &mut [u8],
+    p: Parsed,
+    kind: u8,
+) -> Parsed
+    requires { ⌜ Ready 3 (input (now tokens) (now text) end) p ⌝ }
+    ensures { λ r. ⌜ Chained (parent (input (now (tokens .entry)) (now (text .entry)) end) kind 0 (parseConst (input (now (tokens .entry)) (now (text .entry)) end))) p (now (out .entry)) (now (out .exit)) r ⌝ }
+{
+    let children = inside(p);
+    let q = parse_const(tokens, text, end, out, children);
+    close_at(tokens, end, out, p, kind, 0, q)
 }

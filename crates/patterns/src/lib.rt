@@ -1,0 +1,172 @@
+// parse_pattern of the Rust: a pattern's records from its tokens. The functions that read a pattern's parts call it again,
+// with one level of depth less.
+use steps::Parsed;
+use steps::close_at;
+use steps::const_node;
+use steps::expect_at;
+use steps::expect_lparen;
+use steps::expect_rparen;
+use steps::expect_word;
+use steps::goes_on;
+use steps::ident_node;
+use steps::inside;
+use steps::leaf_at;
+use steps::next_token;
+use steps::parse_ident;
+use steps::put_leaf;
+use steps::refuse_at;
+use steps::second_token;
+use trees::Head;
+ghost use mathlib.Core.Path.{_≡_};
+ghost use Prim.Native.Nat.{ℕ, _+_, _-_, _/_, _≤_, _<_};
+ghost use Rattle.trees.specs.Ast.{Pattern·Bind, Pattern·And, Pattern·Term};
+ghost use Rattle.tokens.specs.Input.{Input, input};
+ghost use Rattle.steps.specs.Keywords.{word-and};
+ghost use Rattle.steps.specs.Outcome.{_⊳_, parent, row, expect-lparen, expect-rparen, expect-at, expect-word, parseIdent};
+ghost use Rattle.steps.specs.Met.{Ready, Chained};
+ghost use Rattle.patterns.specs.Pattern.{compound, parsePattern};
+
+// The pattern at p, of at most this depth.
+pub fn parse_pattern(
+    tokens: &[u8],
+    text: &[u8],
+    end: u32,
+    out: &mut [u8],
+    p: Parsed,
+    depth: usize,
+) -> Parsed
+    requires { ⌜ Ready 3 (input (now tokens) (now text) end) p ⌝ }
+    ensures { λ r. ⌜ Chained (parsePattern (input (now (tokens .entry)) (now (text .entry)) end) depth) p (now (out .entry)) (now (out .exit)) r ⌝ }
+{
+    if depth == 0 {
+        return refuse_at(tokens, end, p, 8);
+    }
+    let t = next_token(tokens, end, p);
+    if t.is_int() {
+        let h = Head {
+            kind: Head::PATTERN_INT,
+            flags: 0,
+            pos: t.pos,
+            word1: t.word1,
+            word2: t.word2,
+        };
+        return put_leaf(out, p, h);
+    }
+    if t.is_const(text) {
+        return const_node(tokens, text, end, out, p, Head::PATTERN_CONST);
+    }
+    if t.is_word(text, b"_") {
+        return leaf_at(tokens, end, out, p, Head::PATTERN_WILDCARD, 0);
+    }
+    if t.is_word(text, b"true") {
+        return leaf_at(tokens, end, out, p, Head::PATTERN_BOOL, 1);
+    }
+    if t.is_word(text, b"false") {
+        return leaf_at(tokens, end, out, p, Head::PATTERN_BOOL, 0);
+    }
+    parse_compound(tokens, text, end, out, p, depth - 1)
+}
+
+// A pattern that is a name, bound or not, or stands in parentheses; the patterns inside are of at most this depth.
+fn parse_compound(
+    tokens: &[u8],
+    text: &[u8],
+    end: u32,
+    out: &mut [u8],
+    p: Parsed,
+    depth: usize,
+) -> Parsed
+    requires { ⌜ Ready 3 (input (now tokens) (now text) end) p ⌝ }
+    ensures { λ r. ⌜ Chained (compound (input (now (tokens .entry)) (now (text .entry)) end) (parsePattern (input (now (tokens .entry)) (now (text .entry)) end) depth)) p (now (out .entry)) (now (out .exit)) r ⌝ }
+{
+    let t = next_token(tokens, end, p);
+    let u = second_token(tokens, end, p);
+    if t.is_symbol() {
+        if u.is_at() {
+            return parse_bind(tokens, text, end, out, p, depth);
+        }
+        return ident_node(tokens, text, end, out, p, Head::PATTERN_VAR);
+    }
+    if t.is_lparen() {
+        if u.is_word(text, b"and") {
+            return parse_and(tokens, text, end, out, p, depth);
+        }
+        return parse_term(tokens, text, end, out, p, depth);
+    }
+    refuse_at(tokens, end, p, 25)
+}
+
+// A name, `@` and the pattern that it is bound over.
+fn parse_bind(
+    tokens: &[u8],
+    text: &[u8],
+    end: u32,
+    out: &mut [u8],
+    p: Parsed,
+    depth: usize,
+) -> Parsed
+    requires { ⌜ Ready 3 (input (now tokens) (now text) end) p ⌝ }
+    ensures { λ r. ⌜ Chained (parent (input (now (tokens .entry)) (now (text .entry)) end) Pattern·Bind 0 (parseIdent (input (now (tokens .entry)) (now (text .entry)) end) ⊳ expect-at (input (now (tokens .entry)) (now (text .entry)) end) ⊳ parsePattern (input (now (tokens .entry)) (now (text .entry)) end) depth)) p (now (out .entry)) (now (out .exit)) r ⌝ }
+{
+    let name = parse_ident(tokens, text, end, out, inside(p));
+    let at = expect_at(tokens, end, name);
+    let q = parse_pattern(tokens, text, end, out, at, depth);
+    close_at(tokens, end, out, p, Head::PATTERN_BIND, 0, q)
+}
+
+// `(and ..)`
+fn parse_and(
+    tokens: &[u8],
+    text: &[u8],
+    end: u32,
+    out: &mut [u8],
+    p: Parsed,
+    depth: usize,
+) -> Parsed
+    requires { ⌜ Ready 3 (input (now tokens) (now text) end) p ⌝ }
+    ensures { λ r. ⌜ Chained (parent (input (now (tokens .entry)) (now (text .entry)) end) Pattern·And 0 (expect-lparen (input (now (tokens .entry)) (now (text .entry)) end) ⊳ expect-word (input (now (tokens .entry)) (now (text .entry)) end) word-and ⊳ row (input (now (tokens .entry)) (now (text .entry)) end) (parsePattern (input (now (tokens .entry)) (now (text .entry)) end) depth) ⊳ expect-rparen (input (now (tokens .entry)) (now (text .entry)) end))) p (now (out .entry)) (now (out .exit)) r ⌝ }
+{
+    let open = expect_lparen(tokens, end, inside(p));
+    let word = expect_word(tokens, text, end, open, b"and");
+    let list = parse_patterns(tokens, text, end, out, word, depth);
+    let q = expect_rparen(tokens, end, list);
+    close_at(tokens, end, out, p, Head::PATTERN_AND, 0, q)
+}
+
+// `(term ..)`
+fn parse_term(
+    tokens: &[u8],
+    text: &[u8],
+    end: u32,
+    out: &mut [u8],
+    p: Parsed,
+    depth: usize,
+) -> Parsed
+    requires { ⌜ Ready 3 (input (now tokens) (now text) end) p ⌝ }
+    ensures { λ r. ⌜ Chained (parent (input (now (tokens .entry)) (now (text .entry)) end) Pattern·Term 0 (expect-lparen (input (now (tokens .entry)) (now (text .entry)) end) ⊳ parseIdent (input (now (tokens .entry)) (now (text .entry)) end) ⊳ row (input (now (tokens .entry)) (now (text .entry)) end) (parsePattern (input (now (tokens .entry)) (now (text .entry)) end) depth) ⊳ expect-rparen (input (now (tokens .entry)) (now (text .entry)) end))) p (now (out .entry)) (now (out .exit)) r ⌝ }
+{
+    let open = expect_lparen(tokens, end, inside(p));
+    let name = parse_ident(tokens, text, end, out, open);
+    let list = parse_patterns(tokens, text, end, out, name, depth);
+    let q = expect_rparen(tokens, end, list);
+    close_at(tokens, end, out, p, Head::PATTERN_TERM, 0, q)
+}
+
+// Patterns up to a `)`, which is left.
+fn parse_patterns(
+    tokens: &[u8],
+    text: &[u8],
+    end: u32,
+    out: &mut [u8],
+    p: Parsed,
+    depth: usize,
+) -> Parsed
+    requires { ⌜ Ready 3 (input (now tokens) (now text) end) p ⌝ }
+    ensures { λ r. ⌜ Chained (row (input (now (tokens .entry)) (now (text .entry)) end) (parsePattern (input (now (tokens .entry)) (now (text .entry)) end) depth)) p (now (out .entry)) (now (out .exit)) r ⌝ }
+{
+    let mut q = p;
+    while goes_on(tokens, end, q) {
+        q = parse_pattern(tokens, text, end, out, q, depth);
+    }
+    q
+}
