@@ -333,3 +333,49 @@ pub small-moved : (tokens : List ℕ) (end : ℕ) (test : Token → Bool) (q r :
 unfolding moved
 small-moved tokens end test (Accepted i n k) r e h = rw e (small-token tokens end test i n k h (test (tokenAt tokens end i)) refl)
 small-moved tokens end test (Refused d) r e h = rw e h
+
+-- a part that may make one record more than its tokens allow: as a first child, and for the child count
+one-more : (c c′ : ℕ) → c + 2 ≤ c′ → c′ ≤ 16 → (s : Input) (i n k : ℕ) (o : Outcome) (l l′ : List ℕ) (r : Parsed) → Sized 0 0 1 s i o → At c s i n k → Met o (n + 1) 0 l l′ r → Ready c′ s r
+unfolding Met Ready
+one-more c c′ x y s i n k (accept ts j) l l′ (Accepted v m w) z a h =
+    let f = z .fit ts j refl in
+    record {
+      few = a .few;
+      short = a .short;
+      here = omega (arith, h .ends, f .inside (a .here));
+      room = omega (arith, h .ends, h .counted, f .room, a .room);
+      kids = omega (arith, h .ends, h .rows, f .kids);
+      slack = y;
+    }
+one-more c c′ x y s i n k (accept ts j) l l′ (Refused d) z a h = absurd h
+one-more c c′ x y s i n k (refuse e) l l′ (Accepted v m w) z a h = absurd h
+one-more c c′ x y s i n k (refuse e) l l′ (Refused d) z a h = tt
+
+began : (f : Reader) (i n k : ℕ) (l l′ : List ℕ) (r : Parsed) → Chained f (inside (Accepted i n k)) l l′ r → Met (f i) (n + 1) 0 l l′ r
+unfolding Chained inside
+began f i n k l l′ r h = h
+
+gone : (f : Reader) (d : Refusal) (l l′ : List ℕ) (r : Parsed) → Chained f (inside (Refused d)) l l′ r → r ≡ Refused d
+unfolding Chained inside
+gone f d l l′ r h = h
+
+small-refused : (e : Refusal) → Small (Refused e)
+unfolding Small
+small-refused e = tt
+
+pub ready-first : (c c′ : ℕ) → c + 2 ≤ c′ → c′ ≤ 16 → (f : Reader) (p q r : Parsed) (l l′ : List ℕ) (s : Input) → Chained f q l l′ r → q ≡ inside p → Bounded 0 0 1 s f → Ready c s p → Ready c′ s r
+unfolding Ready
+ready-first c c′ x y f (Accepted i n k) q r l l′ s h e b a = one-more c c′ x y s i n k (f i) l l′ r (b .sized i) a (began f i n k l l′ r (rw e at h))
+ready-first c c′ x y f (Refused d) q r l l′ s h e b a = rw (gone f d l l′ r (rw e at h)) tt
+
+over-met : (c : ℕ) (s : Input) (i n k : ℕ) (o : Outcome) (l l′ : List ℕ) (r : Parsed) → Sized 0 0 1 s i o → At c s i n k → Met o n k l l′ r → Small r
+unfolding Met Small
+over-met c s i n k (accept ts j) l l′ (Accepted v m w) z a h = let f = z .fit ts j refl in omega (arith, h .rows, f .kids, f .inside (a .here), a .kids, a .few)
+over-met c s i n k (accept ts j) l l′ (Refused d) z a h = absurd h
+over-met c s i n k (refuse e) l l′ (Accepted v m w) z a h = absurd h
+over-met c s i n k (refuse e) l l′ (Refused d) z a h = tt
+
+pub small-over : (c : ℕ) (f : Reader) (q r : Parsed) (l l′ : List ℕ) (d : ℕ) (s : Input) (p : Parsed) → Chained f q l l′ r → Ready d s p → Bounded 0 0 1 s f → Ready c s q → Small r
+unfolding Chained Ready
+small-over c f (Accepted i n k) r l l′ d s p h z b a = over-met c s i n k (f i) l l′ r (b .sized i) a h
+small-over c f (Refused e) r l l′ d s p h z b a = rw h (small-refused e)

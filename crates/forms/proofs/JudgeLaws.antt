@@ -1,0 +1,105 @@
+-- The ways through the tests of one record, in the code's terms. Assumes nothing.
+use mathlib.Core.Path.{_≡_, refl, sym}
+use mathlib.Core.Bool.{Bool, true, false, not}
+use Prim.Native.Nat.{ℕ, _+_, _*_, _/_, _%_, _≤_, _<_}
+use native.Mathlib.Omega.{arith}
+use lib.Dec.{eqb, leb}
+use borrow.Author.Tests.{eq-eqb, ne-eqb, lt-ltb, le-ltb, not-true, not-false}
+use Rattle.trees.specs.declared.Rec.{Rec}
+use Rattle.forms.specs.declared.Row.{Row}
+use Rattle.forms.specs.Kinds.{none, tuple-field, index, integer, range}
+use Rattle.forms.specs.Forms.{placed, some, singles, positionOk, wordsOk, stands}
+use Rattle.forms.proofs.TestLaws.{true-and, false-and, and-false}
+
+pub some-none : (s : ℕ) → s ≡ 0 → 0 ≡ some s
+unfolding some
+some-none s e = rw (eq-eqb s none e)
+
+pub some-one : (s : ℕ) → (s ≡ 0 → ⊥) → 1 ≡ some s
+unfolding some
+some-one s e = rw (ne-eqb s none e)
+
+pub singles-sum : (w : Row) (a b c d : ℕ) → a ≡ some (w .first) → b ≡ some (w .second) → c ≡ some (w .third) → d ≡ some (w .last) → a + b + c + d ≡ singles w
+unfolding singles
+singles-sum w a b c d p q r s = cc
+
+module _ (s sort w : ℕ) where
+  pub placed-field : sort ≡ 10 → eqb s (10 + 256 * w) ≡ eqb s (placed sort w)
+  unfolding placed
+  placed-field e = rw (eq-eqb sort tuple-field e)
+
+  pub placed-far : sort ≡ 10 → 16777216 ≤ w → s < 4294967296 → false ≡ eqb s (placed sort w)
+  unfolding placed
+  placed-far e h k = rw (eq-eqb sort tuple-field e) (sym (ne-eqb s (10 + 256 * w) (λ q. omega arith)))
+
+  pub placed-other : (sort ≡ 10 → ⊥) → eqb s sort ≡ eqb s (placed sort w)
+  unfolding placed
+  placed-other e = rw (ne-eqb sort tuple-field e)
+
+pub placed-at : (s p : ℕ) → s ≡ 10 → 10 + 256 * p ≡ placed s p
+unfolding placed
+placed-at s p e = rw (eq-eqb s tuple-field e)
+
+pub placed-plain : (s p : ℕ) → (s ≡ 10 → ⊥) → s ≡ placed s p
+unfolding placed
+placed-plain s p e = rw (ne-eqb s tuple-field e)
+
+pub singles-of : (w : Row) → some (w .first) + some (w .second) + some (w .third) + some (w .last) ≡ singles w
+unfolding singles
+singles-of w = refl
+
+pub position-none : (p x : ℕ) → p ≡ 0 → eqb x 0 ≡ positionOk p x
+unfolding positionOk
+position-none p x e = rw (eq-eqb p 0 e)
+
+pub position-any : (p x : ℕ) → (p ≡ 0 → ⊥) → true ≡ positionOk p x
+unfolding positionOk
+position-any p x e = rw (ne-eqb p 0 e)
+
+module _ (t w a b : ℕ) where
+  pub words-integer : w ≡ 2 → true ≡ wordsOk t w a b
+  unfolding wordsOk
+  words-integer e = rw (eq-eqb w integer e)
+
+  pub words-second : (w ≡ 2 → ⊥) → (b ≡ 0 → ⊥) → false ≡ wordsOk t w a b
+  unfolding wordsOk
+  words-second e f = rw (ne-eqb w integer e, ne-eqb b 0 f, false-and)
+
+  pub words-index : (w ≡ 2 → ⊥) → b ≡ 0 → w ≡ 1 → true ≡ wordsOk t w a b
+  unfolding wordsOk
+  words-index e f g = rw (ne-eqb w integer e, eq-eqb b 0 f, true-and, eq-eqb w index g)
+
+  pub words-range : (w ≡ 2 → ⊥) → b ≡ 0 → (w ≡ 1 → ⊥) → w ≡ 3 → leb (a / 4294967296 + a % 4294967296) t ≡ wordsOk t w a b
+  unfolding wordsOk
+  words-range e f g h = rw (ne-eqb w integer e, eq-eqb b 0 f, true-and, ne-eqb w index g, eq-eqb w range h)
+
+  pub words-empty : (w ≡ 2 → ⊥) → b ≡ 0 → (w ≡ 1 → ⊥) → (w ≡ 3 → ⊥) → eqb a 0 ≡ wordsOk t w a b
+  unfolding wordsOk
+  words-empty e f g h = rw (ne-eqb w integer e, eq-eqb b 0 f, true-and, ne-eqb w index g, ne-eqb w range h)
+
+module _ (t s : ℕ) (w : Row) (r : Rec) where
+  pub stands-nowhere : s ≡ 0 → false ≡ stands t s w r
+  unfolding stands
+  stands-nowhere e = rw (le-ltb 0 s (omega arith), false-and)
+
+  pub stands-other : (b : Bool) → b ≡ eqb s (placed (w .sort) (r .word1)) → not b ≡ true → false ≡ stands t s w r
+  unfolding stands
+  stands-other b e f = rw (← e, not-true b f, false-and, and-false)
+
+  pub stands-flags : w .flags ≤ r .flags → false ≡ stands t s w r
+  unfolding stands
+  stands-flags h = rw (le-ltb (r .flags) (w .flags) h, false-and, and-false, and-false)
+
+  pub stands-position : (b : Bool) → b ≡ positionOk (w .position) (r .pos) → not b ≡ true → false ≡ stands t s w r
+  unfolding stands
+  stands-position b e f = rw (← e, not-true b f, false-and, and-false, and-false, and-false)
+
+  pub stands-words : (b : Bool) → b ≡ wordsOk t (w .words) (r .word1) (r .word2) → not b ≡ true → false ≡ stands t s w r
+  unfolding stands
+  stands-words b e f = rw (← e, not-true b f, false-and, and-false, and-false, and-false, and-false)
+
+  pub stands-all : (x y z : Bool) (n : ℕ) → x ≡ eqb s (placed (w .sort) (r .word1)) → y ≡ positionOk (w .position) (r .pos) → z ≡ wordsOk t (w .words) (r .word1) (r .word2) → n ≡ singles w →
+      (s ≡ 0 → ⊥) → not x ≡ false → r .flags < w .flags → not y ≡ false → not z ≡ false → leb n (r .count) ≡ stands t s w r
+  unfolding stands
+  stands-all x y z n e f g h a b c d i =
+      rw (lt-ltb 0 s (omega arith), true-and, ← e, not-false x b, true-and, lt-ltb (r .flags) (w .flags) c, true-and, ← f, not-false y d, true-and, ← g, not-false z i, true-and, h)

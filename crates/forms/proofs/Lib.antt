@@ -1,0 +1,13 @@
+pub mod TestLaws
+pub mod Exact
+pub mod TableLaws
+pub mod ListLaws
+pub mod StackLaws
+pub mod JudgeLaws
+pub mod ScanLaws
+pub mod SkipLaws
+pub mod DepthLaws
+pub mod DepthTurns
+pub mod FirstLaws
+pub mod Inside
+pub mod Examples

@@ -1,0 +1,80 @@
+-- The ways through the recognizer's loop, in the code's terms. Assumes nothing.
+use mathlib.Core.Path.{_≡_, ap, sym, _∙_}
+use mathlib.Core.Bool.{Bool, true, false, not}
+use mathlib.Core.List.{List, [], _∷_, _++_}
+use Prim.Native.Nat.{ℕ, _+_, _-_, _≤_, _<_}
+use native.Mathlib.Omega.{arith}
+use lib.ListN.{length, length-append, set, length-set}
+use lib.Seq.{getD-set-same}
+use borrow.Author.Tests.{not-true, not-false}
+use Rattle.trees.specs.declared.Rec.{Rec}
+use Rattle.records.specs.Slots.{slots, recAt, recs}
+use Rattle.forms.specs.declared.Row.{Row}
+use Rattle.forms.specs.Tests.{_and_}
+use Rattle.forms.specs.Kinds.{rowFor}
+use Rattle.forms.specs.Forms.{sortsOf, children, stands, good, next, fits, singles}
+use Rattle.forms.specs.Lists.{left}
+use Rattle.forms.specs.Stack.{pending, Pushed}
+use Rattle.forms.proofs.TestLaws.{true-and, false-and, and-false}
+use Rattle.forms.proofs.Exact.{enough, length-children, fits-short}
+use Rattle.forms.proofs.ListLaws.{left-more, left-none, left-all, length-left}
+use Rattle.forms.proofs.StackLaws.{pending-rest, length-pending}
+
+pub scan-first : (t base n at : ℕ) (list stack : List ℕ) → n ≡ slots list → n < at → false ≡ fits t base (pending stack at) (recs list)
+scan-first t base n at list stack e h =
+    sym (rw (left-all list) at (fits-short t base (pending stack at) (left list 0) (simp (length-left, length-pending) (omega arith))))
+
+pub scan-start : (t base at : ℕ) (list stack : List ℕ) → fits t base (pending stack at) (left list 0) ≡ fits t base (pending stack at) (recs list)
+scan-start t base at list stack = ap (fits t base (pending stack at)) (left-all list)
+
+module _ (t base n : ℕ) (list stack : List ℕ) (top i below s : ℕ) (r : Rec) (b f : Bool)
+    (read : r ≡ recAt list i) (want : s ≡ next base (pending stack top)) (under : below ≡ top - 1) (judged : b ≡ good t s r)
+    (inv : fits t base (pending stack top) (left list i) ≡ f) (all : n ≡ slots list) (more : i < n) where
+  turn : good t s r and fits t base (children r ++ pending stack below) (left list (i + 1)) ≡ f
+  unfolding fits
+  turn =
+      let h : i < slots list = omega arith in
+      rw (read, want, under, ← pending-rest stack top) (rw (left-more list i h) at inv)
+
+  pub scan-no : not b ≡ true → false ≡ f
+  scan-no e = sym (false-and _) ∙ (rw (← judged, not-true b e) at turn)
+
+  pub scan-short : not b ≡ false → n - (i + 1) < below + r .count → false ≡ f
+  scan-short e h =
+      let size : length (children r) ≡ r .count = length-children t s r (sym judged ∙ not-false b e) in
+      sym (and-false _)
+      ∙ (rw (fits-short t base (children r ++ pending stack below) (left list (i + 1)) (simp (length-append, length-left, size, length-pending) (omega arith))) at turn)
+
+  pub scan-again : (stack′ : List ℕ) (top′ : ℕ) → Pushed stack stack′ below top′ (children r) → not b ≡ false → fits t base (pending stack′ top′) (left list (i + 1)) ≡ f
+  scan-again stack′ top′ q e =
+      rw (q .holds, ← true-and (fits t base (children r ++ pending stack below) (left list (i + 1)))) (rw (← judged, not-false b e) at turn)
+
+pub scan-end : (t base n : ℕ) (list stack : List ℕ) (top i : ℕ) (f : Bool) → fits t base (pending stack top) (left list i) ≡ f → n ≡ slots list → n ≤ i → top ≤ n - i → true ≡ f
+unfolding fits pending
+scan-end t base n list stack top i f inv e h l =
+    let z : top ≡ 0 = omega arith in
+    let k : slots list ≤ i = omega arith in
+    rw (z, left-none list i k) at inv
+
+-- where a record may stand, its single children are counted
+pub scan-enough : (t s : ℕ) (r : Rec) (b : Bool) → b ≡ good t s r → not b ≡ false → singles (rowFor (r .kind) (r .flags)) ≤ r .count
+scan-enough t s r b e f = enough t s (rowFor (r .kind) (r .flags)) r (sym e ∙ not-false b f)
+
+-- by the row of the record
+pub good-row : (t s : ℕ) (r : Rec) (w : Row) (b : Bool) → w ≡ rowFor (r .kind) (r .flags) → b ≡ stands t s w r → b ≡ good t s r
+good-row t s r w b e f = f ∙ ap (λ (x : Row). stands t s x r) e
+
+pub enough-row : (c : ℕ) (w v : Row) → w ≡ v → singles v ≤ c → singles w ≤ c
+enough-row c w v e h = rw e h
+
+pub pushed-row : (s s′ : List ℕ) (top top′ : ℕ) (r : Rec) (w : Row) → w ≡ rowFor (r .kind) (r .flags) → Pushed s s′ top top′ (sortsOf w (r .count)) → Pushed s s′ top top′ (children r)
+pushed-row s s′ top top′ r w e p = rw (← e) p
+
+-- one sort on the stack, and none
+pub one-pending : (t s : ℕ) (rs : List Rec) (stack : List ℕ) (y : Bool) → 65536 ≤ length (set stack 0 s) → y ≡ fits t 0 (pending (set stack 0 s) 1) rs → y ≡ fits t 0 (s ∷ []) rs
+unfolding pending
+one-pending t s rs stack y h e = e ∙ rw (getD-set-same stack 0 s 0 (omega (arith, length-set stack 0 s)))
+
+pub none-pending : (t b : ℕ) (rs : List Rec) (stack : List ℕ) (y : Bool) → y ≡ fits t b (pending stack 0) rs → y ≡ fits t b [] rs
+unfolding pending
+none-pending t b rs stack y e = e

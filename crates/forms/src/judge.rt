@@ -1,0 +1,256 @@
+// Whether a record may stand where a sort is expected, and the stack of the sorts still expected.
+use crate::Row;
+use crate::table::Cells;
+use crate::table::numbers;
+use crate::table::row_of;
+use records::rec_at;
+use records::slots;
+use trees::Rec;
+ghost use mathlib.Core.Path.{_≡_};
+ghost use Prim.Native.Nat.{_+_, _-_, _≤_, _<_};
+ghost use lib.ListN.{length};
+ghost use lib.Dec.{eqb};
+ghost use Rattle.records.specs.Slots.{slots, recs};
+ghost use Rattle.forms.specs.Kinds.{pattern, definition, name, rowFor};
+ghost use Rattle.forms.specs.Table.{table};
+ghost use Rattle.forms.specs.Forms.{placed, one, run, some, singles, leading, sortsOf, positionOk, wordsOk, children, stands, good, next, fits, isOne, isMany};
+ghost use Rattle.forms.specs.Stack.{pending, Pushed};
+
+// One where there is a child of the sort s.
+fn some(s: u8) -> usize
+    ensures { λ r. ⌜ (r ≡ some s) × (r ≤ 1) ⌝ }
+{
+    if s == 0 {
+        return 0;
+    }
+    1
+}
+
+// How many single children a row has.
+fn singles(w: Row) -> usize
+    ensures { λ r. ⌜ r ≡ singles w ⌝ }
+{
+    some(w.first) + some(w.second) + some(w.third) + some(w.last)
+}
+
+// Whether the sort s is expected where a record has the sort `sort` and the first word w.
+fn is_placed(s: u32, sort: u8, w: u64) -> bool
+    ensures { λ r. ⌜ r ≡ eqb s (placed sort w) ⌝ }
+{
+    if sort == 10 {
+        if w < 16777216 {
+            return s as u64 == 10 + 256 * w;
+        }
+        return false;
+    }
+    s == sort as u32
+}
+
+// A position, where there is one; else 0.
+fn position_ok(position: u8, x: u32) -> bool
+    ensures { λ r. ⌜ r ≡ positionOk position x ⌝ }
+{
+    if position == 0 {
+        return x == 0;
+    }
+    true
+}
+
+// What words 1 and 2 hold, with a text of t bytes.
+fn words_ok(t: usize, w: u8, a: u64, b: u64) -> bool
+    ensures { λ r. ⌜ r ≡ wordsOk t w a b ⌝ }
+{
+    if w == 2 {
+        return true;
+    }
+    if b != 0 {
+        return false;
+    }
+    if w == 1 {
+        return true;
+    }
+    if w == 3 {
+        return (a / 4294967296 + a % 4294967296) as usize <= t;
+    }
+    a == 0
+}
+
+// Whether a record with the row w may stand where the sort s is expected.
+fn may_stand(t: usize, s: u32, w: Row, r: Rec) -> bool
+    ensures { λ y. ⌜ y ≡ stands t s w r ⌝ }
+{
+    if s == 0 {
+        return false;
+    }
+    if !is_placed(s, w.sort, r.word1) {
+        return false;
+    }
+    if r.flags >= w.flags {
+        return false;
+    }
+    if !position_ok(w.position, r.pos) {
+        return false;
+    }
+    if !words_ok(t, w.words, r.word1, r.word2) {
+        return false;
+    }
+    singles(w) <= r.count as usize
+}
+
+// Puts the sort s on the stack, where there is such a child. The new top.
+fn push_one(stack: &mut [u32], top: usize, s: u8) -> usize
+    requires { ⌜ top + some s ≤ length (now stack) ⌝ }
+    ensures { λ y. ⌜ Pushed (now (stack .entry)) (now (stack .exit)) top y (one s) × (y ≡ top + some s) ⌝ }
+{
+    if s == 0 {
+        return top;
+    }
+    stack[top] = s as u32;
+    top + 1
+}
+
+// The sort s at the place p among its parent's children.
+fn placed(s: u8, p: usize) -> u32
+    requires { ⌜ p < 65536 ⌝ }
+    ensures { λ r. ⌜ r ≡ placed s p ⌝ }
+{
+    if s == 10 {
+        return 10 + 256 * (p as u32);
+    }
+    s as u32
+}
+
+// Puts n children of the sort s on the stack, the first on top. The new top.
+fn push_run(stack: &mut [u32], top: usize, s: u8, n: usize) -> usize
+    requires { ⌜ (top + n ≤ length (now stack)) × (n ≤ 65536) ⌝ }
+    ensures { λ y. ⌜ Pushed (now (stack .entry)) (now (stack .exit)) top y (run s 0 n) × (y ≡ top + n) ⌝ }
+{
+    let mut at = top;
+    let mut j = 0;
+    while j < n {
+        stack[at] = placed(s, n - (j + 1));
+        at += 1;
+        j += 1;
+    }
+    at
+}
+
+// Puts the single children that come first on the stack, the first on top. The new top.
+fn push_leading(stack: &mut [u32], top: usize, w: Row) -> usize
+    requires { ⌜ top + some (w .third) + some (w .second) + some (w .first) ≤ length (now stack) ⌝ }
+    ensures { λ y. ⌜ Pushed (now (stack .entry)) (now (stack .exit)) top y (leading w) × (y ≡ top + some (w .third) + some (w .second) + some (w .first)) ⌝ }
+{
+    let third = push_one(stack, top, w.third);
+    let second = push_one(stack, third, w.second);
+    push_one(stack, second, w.first)
+}
+
+// Puts c children of a record with the row w on the stack, the first on top. The new top.
+fn push_children(stack: &mut [u32], top: usize, w: Row, c: usize) -> usize
+    requires { ⌜ (top + c ≤ length (now stack)) × (singles w ≤ c) × (c ≤ 65536) ⌝ }
+    ensures { λ y. ⌜ Pushed (now (stack .entry)) (now (stack .exit)) top y (sortsOf w c) × (y ≡ top + c) ⌝ }
+{
+    let n = c - singles(w);
+    let last = push_one(stack, top, w.last);
+    let any = push_run(stack, last, w.any, n);
+    push_leading(stack, any, w)
+}
+
+// Whether a record may stand where the sort s is expected.
+fn is_good(numbers: &Cells, t: usize, s: u32, r: Rec) -> bool
+    requires { ⌜ now numbers ≡ table ⌝ }
+    ensures { λ y. ⌜ y ≡ good t s r ⌝ }
+{
+    may_stand(t, s, row_of(numbers, r.kind, r.flags), r)
+}
+
+// Puts the children of a record on the stack, the first on top. The new top.
+fn push_record(numbers: &Cells, stack: &mut [u32], top: usize, r: Rec) -> usize
+    requires { ⌜ (now numbers ≡ table) × (top + r .count ≤ length (now stack)) × (singles (rowFor (r .kind) (r .flags)) ≤ r .count) ⌝ }
+    ensures { λ y. ⌜ Pushed (now (stack .entry)) (now (stack .exit)) top y (children r) × (y ≡ top + r .count) ⌝ }
+{
+    let w = row_of(numbers, r.kind, r.flags);
+    push_children(stack, top, w, r.count as usize)
+}
+
+// The sort expected next.
+fn expected(stack: &[u32], top: usize, base: u32) -> u32
+    requires { ⌜ top ≤ length (now stack) ⌝ }
+    ensures { λ y. ⌜ y ≡ next base (pending (now (stack .entry)) top) ⌝ }
+{
+    if top == 0 {
+        return base;
+    }
+    stack[top - 1]
+}
+
+fn less(n: usize) -> usize
+    ensures { λ r. ⌜ r ≡ n - 1 ⌝ }
+{
+    if n == 0 {
+        return 0;
+    }
+    n - 1
+}
+
+// Whether the records are trees of the sorts on the stack and then any number of the sort `base`, none where that is 0.
+fn scan(list: &[u8], t: usize, base: u32, stack: &mut [u32], at: usize) -> bool
+    requires { ⌜ (slots (now list) ≤ 65536) × (65536 ≤ length (now stack)) × (at ≤ length (now stack)) ⌝ }
+    ensures { λ y. ⌜ y ≡ fits t base (pending (now (stack .entry)) at) (recs (now (list .entry))) ⌝ }
+{
+    let n = slots(list);
+    if n < at {
+        return false;
+    }
+    let rows = numbers();
+    let mut top = at;
+    let mut i = 0;
+    while i < n {
+        let r = rec_at(list, i);
+        let s = expected(stack, top, base);
+        let below = less(top);
+        if !is_good(&rows, t, s, r) {
+            return false;
+        }
+        let count = r.count as usize;
+        if n - (i + 1) < below + count {
+            return false;
+        }
+        top = push_record(&rows, stack, below, r);
+        i += 1;
+    }
+    true
+}
+
+// Whether the list is one pattern, where the text has t bytes.
+pub fn one_pattern(list: &[u8], t: usize, stack: &mut [u32; 65536]) -> bool
+    requires { ⌜ slots (now list) ≤ 65536 ⌝ }
+    ensures { λ y. ⌜ y ≡ isOne t pattern (recs (now (list .entry))) ⌝ }
+{
+    stack[0] = 1;
+    scan(list, t, 0, stack, 1)
+}
+
+// Whether the list is any number of patterns.
+pub fn many_patterns(list: &[u8], t: usize, stack: &mut [u32; 65536]) -> bool
+    requires { ⌜ slots (now list) ≤ 65536 ⌝ }
+    ensures { λ y. ⌜ y ≡ isMany t pattern (recs (now (list .entry))) ⌝ }
+{
+    scan(list, t, 1, stack, 0)
+}
+
+// Whether the list is definitions.
+pub fn definitions(list: &[u8], t: usize, stack: &mut [u32; 65536]) -> bool
+    requires { ⌜ slots (now list) ≤ 65536 ⌝ }
+    ensures { λ y. ⌜ y ≡ isMany t definition (recs (now (list .entry))) ⌝ }
+{
+    scan(list, t, 5, stack, 0)
+}
+
+// Whether the list is Idents.
+pub fn idents(list: &[u8], t: usize, stack: &mut [u32; 65536]) -> bool
+    requires { ⌜ slots (now list) ≤ 65536 ⌝ }
+    ensures { λ y. ⌜ y ≡ isMany t name (recs (now (list .entry))) ⌝ }
+{
+    scan(list, t, 4, stack, 0)
+}
