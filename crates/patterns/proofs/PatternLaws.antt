@@ -22,13 +22,13 @@ module _ (s : Input) (sub : Reader) (b : Bounded 1 1 0 s sub) where
 
   bind-bounded : Bounded 1 1 0 s (parent s Pattern·Bind 0 (parseIdent s ⊳ expect-at s ⊳ sub))
   bind-bounded =
-      parent-bounded 3 6 0 1 1 0 s Pattern·Bind 0 (parseIdent s ⊳ expect-at s ⊳ sub) (omega arith) (omega arith) (omega arith)
+      parent-bounded 3 6 0 1 1 0 s Pattern·Bind 0 (parseIdent s ⊳ expect-at s ⊳ sub) (omega arith) (omega arith)
       (then-bounded 2 5 0 1 1 0 s (parseIdent s ⊳ expect-at s) sub (then-bounded 1 2 0 1 3 0 s (parseIdent s) (expect-at s) (ident-bounded s) (at-bounded s)) b)
 
   -- a list in parentheses after its first two tokens
   listed : (c kind : ℕ) (f : Reader) → Bounded 2 (5 + c) 0 s f → Bounded 1 1 0 s (parent s kind 0 (f ⊳ row s sub ⊳ expect-rparen s))
   listed c kind f z =
-      parent-bounded (2 + 0 + 1) (5 + c + 0 + 3) (0 + 0 + 0) 1 1 0 s kind 0 (f ⊳ row s sub ⊳ expect-rparen s) (omega arith) (omega arith) (omega arith)
+      parent-bounded (2 + 0 + 1) (5 + c + 0 + 3) (0 + 0 + 0) 1 1 0 s kind 0 (f ⊳ row s sub ⊳ expect-rparen s) (omega arith) (omega arith)
       (then-bounded (2 + 0) (5 + c + 0) (0 + 0) 1 3 0 s (f ⊳ row s sub) (expect-rparen s) (then-bounded 2 (5 + c) 0 0 0 0 s f (row s sub) z rows) (rparen-bounded s))
 
   compound-bounded : Bounded 1 1 0 s (compound s sub)
@@ -38,7 +38,7 @@ module _ (s : Input) (sub : Reader) (b : Bounded 1 1 0 s sub) where
       (ifSecond s isAt (parent s Pattern·Bind 0 (parseIdent s ⊳ expect-at s ⊳ sub)) (parent s Pattern·Var 0 (parseIdent s)))
       (ifNext s isLparen (ifSecond s (isWord (s .text) word-and) and· term) (refuseAt s 25))
       (second-bounded 1 1 0 s isAt (parent s Pattern·Bind 0 (parseIdent s ⊳ expect-at s ⊳ sub)) (parent s Pattern·Var 0 (parseIdent s)) bind-bounded
-      (parent-bounded 1 2 0 1 1 0 s Pattern·Var 0 (parseIdent s) (omega arith) (omega arith) (omega arith) (ident-bounded s)))
+      (parent-bounded 1 2 0 1 1 0 s Pattern·Var 0 (parseIdent s) (omega arith) (omega arith) (ident-bounded s)))
       (next-bounded 1 1 0 s isLparen (ifSecond s (isWord (s .text) word-and) and· term) (refuseAt s 25)
       (second-bounded 1 1 0 s (isWord (s .text) word-and) and· term
       (listed 1 Pattern·And (expect-lparen s ⊳ expect-word s word-and) (then-bounded 1 3 0 1 3 0 s (expect-lparen s) (expect-word s word-and) (lparen-bounded s) (word-bounded s word-and)))
@@ -59,7 +59,7 @@ module _ (s : Input) (sub : Reader) (b : Bounded 1 1 0 s sub) where
   in-bounded =
       leaf-bounded 1 s isInt constInt rest (omega arith) int-kinded
       (next-bounded 1 1 0 s (isConst (s .text)) (parent s Pattern·ConstPrim 0 (parseConst s)) words
-      (parent-bounded 1 2 0 1 1 0 s Pattern·ConstPrim 0 (parseConst s) (omega arith) (omega arith) (omega arith) (const-bounded s))
+      (parent-bounded 1 2 0 1 1 0 s Pattern·ConstPrim 0 (parseConst s) (omega arith) (omega arith) (const-bounded s))
       (leaf-then word-wildcard Pattern·Wildcard 0 trues
       (leaf-then word-true Pattern·ConstBool 1 falses
       (leaf-then word-false Pattern·ConstBool 0 (compound s sub) compound-bounded))))

@@ -8,7 +8,7 @@ use lib.ListN.{length}
 use borrow.Author.Tests.{not-true, not-false}
 use Rattle.trees.specs.Choice.{choose}
 use Rattle.trees.specs.Tree.{Trees, ∅, _⧺_, count, recordsAll}
-use Rattle.trees.proofs.Laws.{size-⧺, count-⧺}
+use Rattle.trees.proofs.Laws.{size-⧺}
 use Rattle.tokens.specs.Input.{Input, size}
 use Rattle.steps.specs.declared.Refusal.{Refusal}
 use Rattle.steps.specs.declared.Parsed.{Parsed}
@@ -46,7 +46,6 @@ after-item s i c ts m (accept us j) g h =
       on = omega (arith, f .on, g .on);
       inside = λ z. f .inside (g .inside z);
       room = omega (arith, f .room, g .room, size-⧺ ts us);
-      kids = omega (arith, f .kids, g .kids, count-⧺ ts us);
     })
 after-item s i c ts m (refuse e) g h = sized-refuse 0 0 0 s i e
 

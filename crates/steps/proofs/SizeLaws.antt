@@ -12,7 +12,7 @@ use Rattle.trees.specs.Tree.{Tree, Trees, node, ∅, _▸_, _⧺_, count, head,
 use Rattle.trees.specs.declared.Head.{Head}
 use Rattle.trees.specs.Ast.{Ident}
 use Rattle.trees.specs.Names.{spelled}
-use Rattle.trees.proofs.Laws.{size-none, size-one, size-node, size-⧺, count-none, count-one, count-⧺}
+use Rattle.trees.proofs.Laws.{size-none, size-one, size-node, size-⧺, count-size}
 use Rattle.tokens.specs.declared.Token.{Token}
 use Rattle.tokens.specs.Token.{tokenCount, tokenAt, isLparen, isRparen, isSymbol, isInt, isAt, isConst, isWord}
 use Rattle.tokens.specs.Ident.{identRefusal}
@@ -30,7 +30,6 @@ pub record Fit (u c d : ℕ) (s : Input) (i : ℕ) (ts : Trees) (j : ℕ) : Type
   pub on : i + u ≤ j
   pub inside : i ≤ size s → j ≤ size s
   pub room : length (recordsAll ts) + 3 * i + c ≤ 3 * j + d
-  pub kids : count ts + i ≤ j + d
 
 -- the same of an outcome, where it is an acceptance
 pub record Sized (u c d : ℕ) (s : Input) (i : ℕ) (o : Outcome) : Type 0 where
@@ -58,12 +57,12 @@ sized-accept u c d s i us m h =
 
 pub nothing-bounded : (s : Input) → Bounded 0 0 0 s nothing
 unfolding nothing
-nothing-bounded s = record { sized = λ i. sized-accept 0 0 0 s i ∅ i (record { on = omega arith; inside = λ h. h; room = omega (arith, size-none); kids = omega (arith, count-none) }) }
+nothing-bounded s = record { sized = λ i. sized-accept 0 0 0 s i ∅ i (record { on = omega arith; inside = λ h. h; room = omega (arith, size-none) }) }
 
 -- a weaker bound
-pub sized-less : (u c d u′ c′ d′ : ℕ) (s : Input) (i : ℕ) (o : Outcome) → u′ ≤ u → c′ + d ≤ c + d′ → d ≤ d′ → Sized u c d s i o → Sized u′ c′ d′ s i o
-sized-less u c d u′ c′ d′ s i o p q r h =
-    record { fit = λ ts j e. let f = h .fit ts j e in record { on = omega (arith, f .on); inside = f .inside; room = omega (arith, f .room); kids = omega (arith, f .kids) } }
+pub sized-less : (u c d u′ c′ d′ : ℕ) (s : Input) (i : ℕ) (o : Outcome) → u′ ≤ u → c′ + d ≤ c + d′ → Sized u c d s i o → Sized u′ c′ d′ s i o
+sized-less u c d u′ c′ d′ s i o p q h =
+    record { fit = λ ts j e. let f = h .fit ts j e in record { on = omega (arith, f .on); inside = f .inside; room = omega (arith, f .room) } }
 
 -- one part after another
 module _ (u c d u′ c′ d′ : ℕ) (s : Input) (i : ℕ) where
@@ -76,7 +75,6 @@ module _ (u c d u′ c′ d′ : ℕ) (s : Input) (i : ℕ) where
         on = omega (arith, f .on, g .on);
         inside = λ z. f .inside (g .inside z);
         room = omega (arith, f .room, g .room, size-⧺ ts us);
-        kids = omega (arith, f .kids, g .kids, count-⧺ ts us);
       })
   after ts m (refuse e) g h = sized-refuse (u + u′) (c + c′) (d + d′) s i e
 
@@ -90,29 +88,28 @@ unfolding _⊳_
 then-bounded u c d u′ c′ d′ s f g a b = record { sized = λ i. sized-then u c d u′ c′ d′ s i (f i) g (a .sized i) b }
 
 -- a node takes one record more
-pub sized-node : (u c d u′ c′ d′ : ℕ) (s : Input) (i : ℕ) (h : Head) (o : Outcome) → u′ ≤ u → c′ + 1 + d ≤ c + d′ → 1 ≤ u + d′ → Sized u c d s i o → Sized u′ c′ d′ s i (nodeOf h o)
+pub sized-node : (u c d u′ c′ d′ : ℕ) (s : Input) (i : ℕ) (h : Head) (o : Outcome) → u′ ≤ u → c′ + 1 + d ≤ c + d′ → Sized u c d s i o → Sized u′ c′ d′ s i (nodeOf h o)
 unfolding nodeOf
-sized-node u c d u′ c′ d′ s i h (accept ts j) p q r g =
+sized-node u c d u′ c′ d′ s i h (accept ts j) p q g =
     let f = g .fit ts j refl in
     sized-accept u′ c′ d′ s i (node h ts ▸ ∅) j
     (record {
       on = omega (arith, f .on);
       inside = f .inside;
       room = omega (arith, f .room, size-one (node h ts), size-node h ts);
-      kids = omega (arith, f .on, count-one (node h ts));
     })
-sized-node u c d u′ c′ d′ s i h (refuse e) p q r g = sized-refuse u′ c′ d′ s i e
+sized-node u c d u′ c′ d′ s i h (refuse e) p q g = sized-refuse u′ c′ d′ s i e
 
-pub parent-bounded : (u c d u′ c′ d′ : ℕ) (s : Input) (kind flags : ℕ) (f : Reader) → u′ ≤ u → c′ + 1 + d ≤ c + d′ → 1 ≤ u + d′ → Bounded u c d s f → Bounded u′ c′ d′ s (parent s kind flags f)
+pub parent-bounded : (u c d u′ c′ d′ : ℕ) (s : Input) (kind flags : ℕ) (f : Reader) → u′ ≤ u → c′ + 1 + d ≤ c + d′ → Bounded u c d s f → Bounded u′ c′ d′ s (parent s kind flags f)
 unfolding parent
-parent-bounded u c d u′ c′ d′ s kind flags f p q r b = record { sized = λ i. sized-node u c d u′ c′ d′ s i (head kind flags (peek s i .pos) 0 0) (f i) p q r (b .sized i) }
+parent-bounded u c d u′ c′ d′ s kind flags f p q b = record { sized = λ i. sized-node u c d u′ c′ d′ s i (head kind flags (peek s i .pos) 0 0) (f i) p q (b .sized i) }
 
-pub bare-bounded : (u c d u′ c′ d′ : ℕ) (s : Input) (kind : ℕ) (f : Reader) → u′ ≤ u → c′ + 1 + d ≤ c + d′ → 1 ≤ u + d′ → Bounded u c d s f → Bounded u′ c′ d′ s (bare kind f)
+pub bare-bounded : (u c d u′ c′ d′ : ℕ) (s : Input) (kind : ℕ) (f : Reader) → u′ ≤ u → c′ + 1 + d ≤ c + d′ → Bounded u c d s f → Bounded u′ c′ d′ s (bare kind f)
 unfolding bare
-bare-bounded u c d u′ c′ d′ s kind f p q r b = record { sized = λ i. sized-node u c d u′ c′ d′ s i (head kind 0 0 0 0) (f i) p q r (b .sized i) }
+bare-bounded u c d u′ c′ d′ s kind f p q b = record { sized = λ i. sized-node u c d u′ c′ d′ s i (head kind 0 0 0 0) (f i) p q (b .sized i) }
 
-pub less-bounded : (u c d u′ c′ d′ : ℕ) (s : Input) (f : Reader) → u′ ≤ u → c′ + d ≤ c + d′ → d ≤ d′ → Bounded u c d s f → Bounded u′ c′ d′ s f
-less-bounded u c d u′ c′ d′ s f p q r b = record { sized = λ i. sized-less u c d u′ c′ d′ s i (f i) p q r (b .sized i) }
+pub less-bounded : (u c d u′ c′ d′ : ℕ) (s : Input) (f : Reader) → u′ ≤ u → c′ + d ≤ c + d′ → Bounded u c d s f → Bounded u′ c′ d′ s f
+less-bounded u c d u′ c′ d′ s f p q b = record { sized = λ i. sized-less u c d u′ c′ d′ s i (f i) p q (b .sized i) }
 
 -- a reader that makes no more records than its tokens allow; an item of a row, which also takes a token
 abbrev pub Steady : Input → Reader → Type 0
@@ -122,10 +119,10 @@ abbrev pub Item : Input → Reader → Type 0
 Item s f = Bounded 1 0 0 s f
 
 pub steady : (u c : ℕ) (s : Input) (f : Reader) → Bounded u c 0 s f → Steady s f
-steady u c s f b = less-bounded u c 0 0 0 0 s f (omega arith) (omega arith) (omega arith) b
+steady u c s f b = less-bounded u c 0 0 0 0 s f (omega arith) (omega arith) b
 
 pub item : (c : ℕ) (s : Input) (f : Reader) → Bounded 1 c 0 s f → Item s f
-item c s f b = less-bounded 1 c 0 1 0 0 s f (omega arith) (omega arith) (omega arith) b
+item c s f b = less-bounded 1 c 0 1 0 0 s f (omega arith) (omega arith) b
 
 -- a choice
 pub sized-choose : (u c d : ℕ) (s : Input) (i : ℕ) (b : Bool) (f g : Unit {0} → Outcome) → (b ≡ true → Sized u c d s i (f tt)) → (b ≡ false → Sized u c d s i (g tt)) → Sized u c d s i (choose b f g)
@@ -184,7 +181,7 @@ met-there s i test k e = there s i (k .kind) (k .is (peek s i) e) (k .positive)
 
 -- one token
 sized-token : (s : Input) (i : ℕ) → i < size s → Sized 1 3 0 s i (accept ∅ (i + 1))
-sized-token s i h = sized-accept 1 3 0 s i ∅ (i + 1) (record { on = omega arith; inside = λ z. omega arith; room = omega (arith, size-none); kids = omega (arith, count-none) })
+sized-token s i h = sized-accept 1 3 0 s i ∅ (i + 1) (record { on = omega arith; inside = λ z. omega arith; room = omega (arith, size-none) })
 
 expect-bounded : (s : Input) (test : Token → Bool) → Kinded test → Bounded 1 3 0 s (expectAt (s .tokens) (s .end) test)
 unfolding expectAt
@@ -193,12 +190,12 @@ expect-bounded s test k =
 
 -- a leaf, where a test says that its token is there
 sized-leaf : (s : Input) (i : ℕ) (h : Head) → i < size s → Sized 1 2 0 s i (accept (node h ∅ ▸ ∅) (i + 1))
-sized-leaf s i h l = sized-accept 1 2 0 s i (node h ∅ ▸ ∅) (i + 1) (record { on = omega arith; inside = λ z. omega arith; room = omega (arith, size-one (node h ∅), size-node h ∅, size-none); kids = omega (arith, count-one (node h ∅)) })
+sized-leaf s i h l = sized-accept 1 2 0 s i (node h ∅ ▸ ∅) (i + 1) (record { on = omega arith; inside = λ z. omega arith; room = omega (arith, size-one (node h ∅), size-node h ∅, size-none) })
 
 pub leaf-bounded : (c : ℕ) (s : Input) (test : Token → Bool) (h : Token → Head) (g : Reader) → c ≤ 2 → Kinded test → Bounded 1 c 0 s g → Bounded 1 c 0 s (ifNext s test (leaf s h) g)
 unfolding ifNext leaf
 leaf-bounded c s test h g z k b =
-    record { sized = λ i. sized-choose 1 c 0 s i (test (peek s i)) (λ _. accept (node (h (peek s i)) ∅ ▸ ∅) (i + 1)) (λ _. g i) (λ e. sized-less 1 2 0 1 c 0 s i (accept (node (h (peek s i)) ∅ ▸ ∅) (i + 1)) (omega arith) (omega arith) (omega arith) (sized-leaf s i (h (peek s i)) (met-there s i test k e))) (λ e. b .sized i) }
+    record { sized = λ i. sized-choose 1 c 0 s i (test (peek s i)) (λ _. accept (node (h (peek s i)) ∅ ▸ ∅) (i + 1)) (λ _. g i) (λ e. sized-less 1 2 0 1 c 0 s i (accept (node (h (peek s i)) ∅ ▸ ∅) (i + 1)) (omega arith) (omega arith) (sized-leaf s i (h (peek s i)) (met-there s i test k e))) (λ e. b .sized i) }
 
 pub lparen-bounded : (s : Input) → Bounded 1 3 0 s (expect-lparen s)
 lparen-bounded s = expect-bounded s isLparen lparen-kinded
@@ -268,7 +265,7 @@ module _ (c c′ b : ℕ) (x : c ≤ c′ + b) (y : c′ ≤ 16) where
         short = a .short;
         here = omega (arith, h .ends, f .inside (a .here));
         room = omega (arith, h .ends, h .counted, f .room, a .room);
-        kids = omega (arith, h .ends, h .rows, f .kids, a .kids);
+        kids = omega (arith, h .ends, h .rows, f .room, a .kids, count-size ts);
         slack = y;
       }
   ready-met u s i n k (accept ts j) l l′ (Refused d) z a h = absurd h
@@ -344,7 +341,7 @@ one-more c c′ x y s i n k (accept ts j) l l′ (Accepted v m w) z a h =
       short = a .short;
       here = omega (arith, h .ends, f .inside (a .here));
       room = omega (arith, h .ends, h .counted, f .room, a .room);
-      kids = omega (arith, h .ends, h .rows, f .kids);
+      kids = omega (arith, h .ends, h .rows, f .room, count-size ts);
       slack = y;
     }
 one-more c c′ x y s i n k (accept ts j) l l′ (Refused d) z a h = absurd h
@@ -370,7 +367,7 @@ ready-first c c′ x y f (Refused d) q r l l′ s h e b a = rw (gone f d l l′ 
 
 over-met : (c : ℕ) (s : Input) (i n k : ℕ) (o : Outcome) (l l′ : List ℕ) (r : Parsed) → Sized 0 0 1 s i o → At c s i n k → Met o n k l l′ r → Small r
 unfolding Met Small
-over-met c s i n k (accept ts j) l l′ (Accepted v m w) z a h = let f = z .fit ts j refl in omega (arith, h .rows, f .kids, f .inside (a .here), a .kids, a .few)
+over-met c s i n k (accept ts j) l l′ (Accepted v m w) z a h = let f = z .fit ts j refl in omega (arith, h .rows, f .room, count-size ts, f .inside (a .here), a .kids, a .few)
 over-met c s i n k (accept ts j) l l′ (Refused d) z a h = absurd h
 over-met c s i n k (refuse e) l l′ (Accepted v m w) z a h = absurd h
 over-met c s i n k (refuse e) l l′ (Refused d) z a h = tt

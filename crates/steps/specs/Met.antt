@@ -82,13 +82,13 @@ goesOn stop (Refused e) = false
 abbrev pub endsAt : List ℕ → ℕ → ℕ → Bool
 endsAt tokens end i = isRparen (tokenAt tokens end i)
 
--- what a parse function may count on: the limits of document 01, and at most three records and one tree for each token, c records more allowed
+-- what a parse function may count on: the limits of document 01, and at most three records for each token, c more allowed
 pub record At (c : ℕ) (s : Input) (i n k : ℕ) : Type 0 where
   pub few : size s ≤ 16384
   pub short : length (s .text) ≤ 65536
   pub here : i ≤ size s
   pub room : n ≤ 3 * i + c
-  pub kids : k ≤ i + 16
+  pub kids : k ≤ 3 * i + 16
   pub slack : c ≤ 16
 
 unfoldable pub Ready : ℕ → Input → Parsed → Type 0

@@ -1,0 +1,171 @@
+// Expressions of the Rust's parser: parse_expr, parse_expr_inner_parens and parse_letdef call one another, with one level of
+// depth less for the expressions inside.
+pub mod iflets;
+use steps::Parsed;
+use steps::close_at;
+use steps::const_node;
+use steps::expect_lparen;
+use steps::expect_rparen;
+use steps::expect_word;
+use steps::goes_on;
+use steps::ident_node;
+use steps::inside;
+use steps::leaf_at;
+use steps::next_token;
+use steps::parse_ident;
+use steps::put_leaf;
+use steps::refuse_at;
+use steps::second_token;
+use trees::Head;
+ghost use mathlib.Core.Path.{_≡_};
+ghost use Prim.Native.Nat.{ℕ, _+_, _-_, _/_, _≤_, _<_};
+ghost use Rattle.tokens.specs.Input.{Input, input};
+ghost use Rattle.steps.specs.Outcome.{row};
+ghost use Rattle.steps.specs.Met.{Ready, Chained};
+ghost use Rattle.exprs.specs.Expr.{parseLetdef, letInside, parseExprInnerParens, parseExpr};
+
+// The expression at p, of at most this depth.
+pub fn parse_expr(
+    tokens: &[u8],
+    text: &[u8],
+    end: u32,
+    out: &mut [u8],
+    p: Parsed,
+    depth: usize,
+) -> Parsed
+    requires { ⌜ Ready 3 (input (now tokens) (now text) end) p ⌝ }
+    ensures { λ r. ⌜ Chained (parseExpr (input (now (tokens .entry)) (now (text .entry)) end) depth) p (now (out .entry)) (now (out .exit)) r ⌝ }
+{
+    if depth == 0 {
+        return refuse_at(tokens, end, p, 8);
+    }
+    let t = next_token(tokens, end, p);
+    if t.is_lparen() {
+        return parse_expr_inner_parens(tokens, text, end, out, p, depth - 1);
+    }
+    if t.is_const(text) {
+        return const_node(tokens, text, end, out, p, Head::EXPR_CONST);
+    }
+    if t.is_word(text, b"true") {
+        return leaf_at(tokens, end, out, p, Head::EXPR_BOOL, 1);
+    }
+    if t.is_word(text, b"false") {
+        return leaf_at(tokens, end, out, p, Head::EXPR_BOOL, 0);
+    }
+    if t.is_symbol() {
+        return ident_node(tokens, text, end, out, p, Head::EXPR_VAR);
+    }
+    if t.is_int() {
+        let h = Head {
+            kind: Head::EXPR_INT,
+            flags: 0,
+            pos: t.pos,
+            word1: t.word1,
+            word2: t.word2,
+        };
+        return put_leaf(out, p, h);
+    }
+    refuse_at(tokens, end, p, 26)
+}
+
+// `(let ..)` or `(term ..)`, the `(` standing at p; the expressions inside are of at most this depth.
+fn parse_expr_inner_parens(
+    tokens: &[u8],
+    text: &[u8],
+    end: u32,
+    out: &mut [u8],
+    p: Parsed,
+    depth: usize,
+) -> Parsed
+    requires { ⌜ Ready 3 (input (now tokens) (now text) end) p ⌝ }
+    ensures { λ r. ⌜ Chained (parseExprInnerParens (input (now (tokens .entry)) (now (text .entry)) end) (parseExpr (input (now (tokens .entry)) (now (text .entry)) end) depth)) p (now (out .entry)) (now (out .exit)) r ⌝ }
+{
+    let u = second_token(tokens, end, p);
+    let open = expect_lparen(tokens, end, inside(p));
+    if u.is_word(text, b"let") {
+        let q = parse_let(tokens, text, end, out, open, depth);
+        return close_at(tokens, end, out, p, Head::EXPR_LET, 0, q);
+    }
+    let name = parse_ident(tokens, text, end, out, open);
+    let list = parse_exprs(tokens, text, end, out, name, depth);
+    let q = expect_rparen(tokens, end, list);
+    close_at(tokens, end, out, p, Head::EXPR_TERM, 0, q)
+}
+
+// The inside of a let: `let (definitions) body)`.
+fn parse_let(
+    tokens: &[u8],
+    text: &[u8],
+    end: u32,
+    out: &mut [u8],
+    p: Parsed,
+    depth: usize,
+) -> Parsed
+    requires { ⌜ Ready 3 (input (now tokens) (now text) end) p ⌝ }
+    ensures { λ r. ⌜ Chained (letInside (input (now (tokens .entry)) (now (text .entry)) end) (parseExpr (input (now (tokens .entry)) (now (text .entry)) end) depth)) p (now (out .entry)) (now (out .exit)) r ⌝ }
+{
+    let word = expect_word(tokens, text, end, p, b"let");
+    let open = expect_lparen(tokens, end, word);
+    let defs = parse_letdefs(tokens, text, end, out, open, depth);
+    let close = expect_rparen(tokens, end, defs);
+    let body = parse_expr(tokens, text, end, out, close, depth);
+    expect_rparen(tokens, end, body)
+}
+
+// `(name type value)`
+fn parse_letdef(
+    tokens: &[u8],
+    text: &[u8],
+    end: u32,
+    out: &mut [u8],
+    p: Parsed,
+    depth: usize,
+) -> Parsed
+    requires { ⌜ Ready 3 (input (now tokens) (now text) end) p ⌝ }
+    ensures { λ r. ⌜ Chained (parseLetdef (input (now (tokens .entry)) (now (text .entry)) end) (parseExpr (input (now (tokens .entry)) (now (text .entry)) end) depth)) p (now (out .entry)) (now (out .exit)) r ⌝ }
+{
+    let open = expect_lparen(tokens, end, inside(p));
+    let name = parse_ident(tokens, text, end, out, open);
+    let ty = parse_ident(tokens, text, end, out, name);
+    let value = parse_expr(tokens, text, end, out, ty, depth);
+    let q = expect_rparen(tokens, end, value);
+    close_at(tokens, end, out, p, Head::LET_DEF, 0, q)
+}
+
+// Let definitions up to a `)`, which is left.
+fn parse_letdefs(
+    tokens: &[u8],
+    text: &[u8],
+    end: u32,
+    out: &mut [u8],
+    p: Parsed,
+    depth: usize,
+) -> Parsed
+    requires { ⌜ Ready 3 (input (now tokens) (now text) end) p ⌝ }
+    ensures { λ r. ⌜ Chained (row (input (now (tokens .entry)) (now (text .entry)) end) (parseLetdef (input (now (tokens .entry)) (now (text .entry)) end) (parseExpr (input (now (tokens .entry)) (now (text .entry)) end) depth))) p (now (out .entry)) (now (out .exit)) r ⌝ }
+{
+    let mut q = p;
+    while goes_on(tokens, end, q) {
+        q = parse_letdef(tokens, text, end, out, q, depth);
+    }
+    q
+}
+
+// Expressions up to a `)`, which is left.
+fn parse_exprs(
+    tokens: &[u8],
+    text: &[u8],
+    end: u32,
+    out: &mut [u8],
+    p: Parsed,
+    depth: usize,
+) -> Parsed
+    requires { ⌜ Ready 3 (input (now tokens) (now text) end) p ⌝ }
+    ensures { λ r. ⌜ Chained (row (input (now (tokens .entry)) (now (text .entry)) end) (parseExpr (input (now (tokens .entry)) (now (text .entry)) end) depth)) p (now (out .entry)) (now (out .exit)) r ⌝ }
+{
+    let mut q = p;
+    while goes_on(tokens, end, q) {
+        q = parse_expr(tokens, text, end, out, q, depth);
+    }
+    q
+}
