@@ -53,6 +53,10 @@ nodeOf h (refuse e) = refuse e
 unfoldable pub parent : Input → ℕ → ℕ → Reader → Reader
 parent s kind flags f = λ i. nodeOf (head kind flags (posAt s i) 0 0) (f i)
 
+-- the same where the flags go by the tokens
+unfoldable pub flagged : Input → ℕ → (ℕ → ℕ) → Reader → Reader
+flagged s kind flags f = λ i. nodeOf (head kind (flags i) (posAt s i) 0 0) (f i)
+
 -- a node without a position
 unfoldable pub bare : ℕ → Reader → Reader
 bare kind f = λ i. nodeOf (head kind 0 0 0 0) (f i)
@@ -127,6 +131,20 @@ expect-at s = expectAt (s .tokens) (s .end) isAt
 abbrev pub expect-word : Input → List ℕ → Reader
 expect-word s w = expectAt (s .tokens) (s .end) (isWord (s .text) w)
 
+-- a word that may stand there, eaten where it does: the index after it
+unfoldable pub ate : Input → List ℕ → ℕ → ℕ
+ate s w i = pick (isWord (s .text) w (peek s i)) (i + 1) i
+
+unfoldable pub eat : Input → List ℕ → Reader
+eat s w = λ i. accept ∅ (ate s w i)
+
+-- a refusal at a token that has been consumed, where it is of the kind that is expected
+unfoldable pub refuseAfter : Input → ℕ → ℕ → Reader
+refuseAfter s kind code = λ i.
+    choose (eqb (peek s i .kind) kind)
+    (λ _. refuse (refusal code (posAt s i) (i + 1)))
+    (λ _. refuse (unexpected (peek s i) i))
+
 -- the token t at index i as an Ident of this range, or the refusal c where that is not 0
 unfoldable pub identAt : Token → ℕ → ℕ → Reader
 identAt t range c i = pick (eqb c 0) (accept (Ident (t .pos) range ▸ ∅) (i + 1)) (refuse (refusal c (t .pos) (i + 1)))
@@ -147,3 +165,11 @@ constRefusal b = pick (eqb (identRefusal b) 0) (pick (eqb (getD b 0 0) 36) 0 16)
 
 unfoldable pub parseConst : Input → Reader
 parseConst s i = nameBy s constRefusal (λ w. w + 4294967295) i
+
+-- an identifier that is refused with another number
+unfoldable pub refusedAs : ℕ → List ℕ → ℕ
+refusedAs code b = pick (eqb (identRefusal b) 0) 0 code
+
+-- a pragma's name: none is known
+unfoldable pub pragmaRefusal : List ℕ → ℕ
+pragmaRefusal b = pick (eqb (identRefusal b) 0) 17 (identRefusal b)
