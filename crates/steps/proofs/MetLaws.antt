@@ -5,6 +5,7 @@ use mathlib.Core.Path.{_≡_, refl, sym, ap, subst, _∙_}
 use mathlib.Core.List.{List, [], _∷_}
 use mathlib.Core.Bool.{Bool, true, false}
 use lib.ListN.{length}
+use lib.Dec.{eqb}
 use Rattle.trees.specs.Choice.{choose}
 use Rattle.trees.specs.Tree.{Tree, Trees, node, ∅, _▸_, _⧺_, count, head, recordOf, recordsAll}
 use Rattle.trees.specs.declared.Head.{Head}
@@ -17,8 +18,8 @@ use Rattle.tokens.specs.Input.{Input, input, peek}
 use Rattle.steps.specs.declared.Refusal.{Refusal}
 use Rattle.steps.specs.declared.Parsed.{Parsed}
 use Rattle.steps.specs.declared.Parsed.the-variants.{Accepted, Refused}
-use Rattle.steps.specs.Outcome.{Outcome, accept, refuse, Reader, refusal, before, andThen, _⊳_, thenAt, nodeOf, parent, bare, leaf, nothing, refuseFrom, ifNext, ifSecond, unexpected, expectAt}
-use Rattle.steps.specs.Met.{Taken, Met, Chained, ChainedAt, movedTo, moved, inside, Closed, Leafed, tokenFor, secondFor}
+use Rattle.steps.specs.Outcome.{Outcome, accept, refuse, Reader, refusal, before, andThen, _⊳_, thenAt, nodeOf, parent, bare, leaf, nothing, refuseFrom, flagged, ifNext, ifSecond, ate, eat, refuseAfter, unexpected, expectAt}
+use Rattle.steps.specs.Met.{Taken, Met, Chained, ChainedAt, movedTo, moved, inside, Closed, Leafed, tokenFor, secondFor, Flags}
 
 -- ---- outcomes
 
@@ -185,3 +186,33 @@ leaf-here tokens text end h p r l l′ c = leaf-read tokens text end h (h (token
 
 pub leaf-by : (tokens text : List ℕ) (end : ℕ) (h : Token → Head) (t : Token) (p r : Parsed) (l l′ : List ℕ) → t ≡ tokenFor tokens end p → Leafed (h t) p l l′ r → Chained (leaf (input tokens text end) h) p l l′ r
 leaf-by tokens text end h t p r l l′ e c = leaf-read tokens text end h (h t) p r l l′ c (ap h e)
+
+-- a node whose flags go by the tokens
+flags-are : (flags : ℕ → ℕ) (p : Parsed) (x : ℕ) → Flags flags p x → (i n k : ℕ) → p ≡ Accepted i n k → x ≡ flags i
+unfolding Flags
+flags-are flags p x h i n k e = rw e at h
+
+same-flags : (x y kind : ℕ) → x ≡ y → (a b : ℕ) → b ≡ a → head kind x b 0 0 ≡ head kind y a 0 0
+same-flags x y kind e a b f = rw (e, f)
+
+pub flagged-read : (tokens text : List ℕ) (end kind x : ℕ) (flags : ℕ → ℕ) (f : Reader) (p q₀ q r : Parsed) (l l₁ l₂ : List ℕ) → Closed (head kind x (tokenFor tokens end p .pos) 0 0) p q l₁ l₂ r → Flags flags p x → q₀ ≡ inside p → Chained f q₀ l l₁ q → Chained (flagged (input tokens text end) kind flags f) p l l₂ r
+unfolding flagged tokenFor
+flagged-read tokens text end kind x flags f p q₀ q r l l₁ l₂ c y e m =
+    over f (λ i. head kind (flags i) (tokenAt tokens end i .pos) 0 0) (head kind x (tokenFor tokens end p .pos) 0 0) p q r l l₁ l₂
+    (λ i n k z. same-flags x (flags i) kind (flags-are flags p x y i n k z) (tokenAt tokens end i .pos) (tokenFor tokens end p .pos) (rw z)) c (rw e at m)
+
+-- a word eaten, and a refusal after a token, read no tree
+pub eating : (s : Input) (w : List ℕ) (q r : Parsed) (l : List ℕ) → r ≡ moved (eat s w) q → Chained (eat s w) q l l r
+unfolding moved movedTo Chained eat
+eating s w (Accepted i n k) r l e = rw e (begun (ate s w i) n k l)
+eating s w (Refused d) r l e = e
+
+after-met : (s : Input) (kind code i n k : ℕ) (l : List ℕ) (b : Bool) → eqb (peek s i .kind) kind ≡ b → Met (refuseAfter s kind code i) n k l l (movedTo n k (refuseAfter s kind code i))
+unfolding refuseAfter movedTo Met
+after-met s kind code i n k l true e = rw e refl
+after-met s kind code i n k l false e = rw e refl
+
+pub refusing-after : (s : Input) (kind code : ℕ) (q r : Parsed) (l : List ℕ) → r ≡ moved (refuseAfter s kind code) q → Chained (refuseAfter s kind code) q l l r
+unfolding moved Chained
+refusing-after s kind code (Accepted i n k) r l e = rw e (after-met s kind code i n k l (eqb (peek s i .kind) kind) refl)
+refusing-after s kind code (Refused d) r l e = e

@@ -9,14 +9,15 @@ use borrow.Author.Tests.{not-true, not-false}
 use Rattle.trees.specs.Choice.{choose}
 use Rattle.trees.specs.Tree.{Trees, ∅, _⧺_, count, recordsAll}
 use Rattle.trees.proofs.Laws.{size-⧺}
-use Rattle.tokens.specs.Input.{Input, size}
+use Rattle.tokens.specs.Token.{isRparen}
+use Rattle.tokens.specs.Input.{Input, peek, size}
 use Rattle.steps.specs.declared.Refusal.{Refusal}
 use Rattle.steps.specs.declared.Parsed.{Parsed}
 use Rattle.steps.specs.declared.Parsed.the-variants.{Accepted, Refused}
-use Rattle.steps.specs.Outcome.{Outcome, accept, refuse, Reader, refusal, before, nothing, thenAt, itemsFrom, manyAt, many}
+use Rattle.steps.specs.Outcome.{Outcome, accept, refuse, Reader, refusal, before, nothing, thenAt, itemsFrom, manyAt, many, row, parseIdent}
 use Rattle.steps.specs.Met.{Taken, Met, Chained, ChainedAt, goesOn, At, Ready}
 use Rattle.steps.proofs.MetLaws.{begun, chain-at, plain-at}
-use Rattle.steps.proofs.SizeLaws.{Fit, Sized, Bounded, BoundedAt, Steady, Item, plain-bounded, nothing-bounded, sized-refuse, sized-accept, sized-choose}
+use Rattle.steps.proofs.SizeLaws.{Fit, Sized, Bounded, BoundedAt, Steady, Item, ident-item, plain-bounded, nothing-bounded, sized-refuse, sized-accept, sized-choose}
 
 -- ---- the bound
 
@@ -159,3 +160,6 @@ row-falls s stop f q r l l′ e x h t v g a = left-falls s stop (λ _. f) q r l 
 
 pub row-met : (s : Input) (stop : ℕ → Bool) (f : Reader) (p q : Parsed) (l l₁ : List ℕ) (x : Bool) → Going s stop (λ _. f) p l q l₁ → x ≡ goesOn stop q → x ≡ false → Chained (many (size s) stop f) p l l₁ q
 row-met s stop f p q l l₁ x w t v = plain-row s stop f p q l l₁ (going-end s stop (λ _. f) p q l l₁ x w t v)
+
+pub idents-steady : (s : Input) → Steady s (row s (parseIdent s))
+idents-steady s = row-steady s (λ i. isRparen (peek s i)) (parseIdent s) (ident-item s)

@@ -21,7 +21,7 @@ use Rattle.tokens.proofs.TokenLaws.{kind-inside, word-kind, const-kind}
 use Rattle.steps.specs.declared.Refusal.{Refusal}
 use Rattle.steps.specs.declared.Parsed.{Parsed}
 use Rattle.steps.specs.declared.Parsed.the-variants.{Accepted, Refused}
-use Rattle.steps.specs.Outcome.{Outcome, accept, refuse, Reader, refusal, before, andThen, _⊳_, nodeOf, parent, bare, leaf, nothing, refuseFrom, refuseAt, ifNext, ifSecond, unexpected, expectAt, expect-lparen, expect-rparen, expect-at, expect-word, identAt, nameBy, parseIdent, constRefusal, parseConst}
+use Rattle.steps.specs.Outcome.{Outcome, accept, refuse, Reader, refusal, before, andThen, _⊳_, nodeOf, parent, bare, leaf, nothing, refuseFrom, refuseAt, flagged, ate, eat, refuseAfter, refusedAs, ifNext, ifSecond, unexpected, expectAt, expect-lparen, expect-rparen, expect-at, expect-word, identAt, nameBy, parseIdent, constRefusal, parseConst}
 use Rattle.steps.specs.Met.{Taken, Met, Chained, ChainedAt, movedTo, moved, inside, At, Ready, Below, Near, Small}
 use Rattle.steps.proofs.MetLaws.{plain-at, token}
 
@@ -123,6 +123,10 @@ steady u c s f b = less-bounded u c 0 0 0 0 s f (omega arith) (omega arith) b
 
 pub item : (c : ℕ) (s : Input) (f : Reader) → Bounded 1 c 0 s f → Item s f
 item c s f b = less-bounded 1 c 0 1 0 0 s f (omega arith) (omega arith) b
+
+pub flagged-bounded : (u c d u′ c′ d′ : ℕ) (s : Input) (kind : ℕ) (flags : ℕ → ℕ) (f : Reader) → u′ ≤ u → c′ + 1 + d ≤ c + d′ → Bounded u c d s f → Bounded u′ c′ d′ s (flagged s kind flags f)
+unfolding flagged
+flagged-bounded u c d u′ c′ d′ s kind flags f p q b = record { sized = λ i. sized-node u c d u′ c′ d′ s i (head kind (flags i) (peek s i .pos) 0 0) (f i) p q (b .sized i) }
 
 -- a choice
 pub sized-choose : (u c d : ℕ) (s : Input) (i : ℕ) (b : Bool) (f g : Unit {0} → Outcome) → (b ≡ true → Sized u c d s i (f tt)) → (b ≡ false → Sized u c d s i (g tt)) → Sized u c d s i (choose b f g)
@@ -243,6 +247,22 @@ const-bounded s = record { sized = name-sized s constRefusal (λ w. w + 42949672
 
 pub const-steady : (s : Input) → Steady s (parseConst s)
 const-steady s = steady 1 2 s (parseConst s) (const-bounded s)
+
+pub other-bounded : (s : Input) (code : ℕ) → Bounded 1 2 0 s (nameBy s (refusedAs code) (λ w. w))
+other-bounded s code = record { sized = name-sized s (refusedAs code) (λ w. w) }
+
+sized-eat : (s : Input) (w : List ℕ) (i : ℕ) (b : Bool) → isWord (s .text) w (peek s i) ≡ b → Sized 0 0 0 s i (accept ∅ (pick b (i + 1) i))
+sized-eat s w i true e = sized-less 1 3 0 0 0 0 s i (accept ∅ (i + 1)) (omega arith) (omega arith) (sized-token s i (met-there s i (isWord (s .text) w) (word-kinded (s .text) w) e))
+sized-eat s w i false e = sized-accept 0 0 0 s i ∅ i (record { on = omega arith; inside = λ h. h; room = omega (arith, size-none) })
+
+pub eat-steady : (s : Input) (w : List ℕ) → Steady s (eat s w)
+unfolding eat ate
+eat-steady s w = record { sized = λ i. sized-eat s w i (isWord (s .text) w (peek s i)) refl }
+
+pub after-bounded : (u c d : ℕ) (s : Input) (kind code : ℕ) → Bounded u c d s (refuseAfter s kind code)
+unfolding refuseAfter
+after-bounded u c d s kind code =
+    record { sized = λ i. sized-choose u c d s i (eqb (peek s i .kind) kind) (λ _. refuse (refusal code (peek s i .pos) (i + 1))) (λ _. refuse (unexpected (peek s i) i)) (λ e. sized-refuse u c d s i (refusal code (peek s i .pos) (i + 1))) (λ e. sized-refuse u c d s i (unexpected (peek s i) i)) }
 
 -- ---- states
 

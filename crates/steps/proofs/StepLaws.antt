@@ -1,5 +1,5 @@
 -- Laws of single steps, one for each way through their code. Assumes nothing.
-use Prim.Native.Nat.{ℕ, zero, suc, _+_, _*_, _/_, _%_, _^_, _<_, _≤_}
+use Prim.Native.Nat.{ℕ, zero, suc, _+_, _-_, _*_, _/_, _%_, _^_, _<_, _≤_}
 use native.Mathlib.Omega.{arith}
 use mathlib.Core.Path.{_≡_, refl, sym, ap, subst, _∙_}
 use mathlib.Core.List.{List, [], _∷_}
@@ -29,8 +29,8 @@ use Rattle.steps.specs.declared.Refusal.{Refusal}
 use Rattle.steps.specs.declared.Parsed.{Parsed}
 use Rattle.steps.specs.declared.Parsed.the-variants.{Accepted, Refused}
 use Rattle.steps.proofs.Parsed.{the-type}
-use Rattle.steps.specs.Outcome.{Outcome, accept, refuse, refusal, Reader, refuseFrom, unexpected, expectAt, identAt, nameBy, parseIdent, constRefusal, parseConst}
-use Rattle.steps.specs.Met.{Taken, Met, Chained, movedTo, moved, inside, Closed, Leafed, tokenFor, secondFor, goesOn, endsAt, At, Ready, Below, Near, Small}
+use Rattle.steps.specs.Outcome.{Outcome, accept, refuse, refusal, Reader, refuseFrom, ate, eat, refuseAfter, refusedAs, unexpected, expectAt, identAt, nameBy, parseIdent, constRefusal, parseConst}
+use Rattle.steps.specs.Met.{Taken, Met, Chained, movedTo, moved, inside, Closed, Leafed, tokenFor, secondFor, goesOn, endsAt, At, Ready, Below, Near, Small, Flags}
 
 -- ---- a state that is no acceptance
 
@@ -290,3 +290,81 @@ small-count q j m c h e = let x : c < 65536 = subst (λ (y : Parsed). Small y) e
 pub small-none : (j m : ℕ) → Small (Accepted j m 0)
 unfolding Small
 small-none j m = omega arith
+
+-- ---- words that may stand there
+
+one-eaten : (s : Input) (w : List ℕ) (i : ℕ) (r : Bool) → r ≡ isWord (s .text) w (peek s i) → ate s w i - i ≡ pick r 1 0
+unfolding ate
+one-eaten s w i true e = rw (← e) (omega arith)
+one-eaten s w i false e = rw (← e) (omega arith)
+
+flags-next : (tokens text w : List ℕ) (end : ℕ) (p : Parsed) (r : Bool) → r ≡ isWord text w (tokenFor tokens end p) → Flags (λ i. ate (input tokens text end) w i - i) p (pick r 1 0)
+unfolding Flags tokenFor
+flags-next tokens text w end (Accepted i n k) r e = sym (one-eaten (input tokens text end) w i r e)
+flags-next tokens text w end (Refused x) r e = tt
+
+flags-second : (tokens text w : List ℕ) (end : ℕ) (p : Parsed) (r : Bool) → r ≡ isWord text w (secondFor tokens end p) → Flags (λ i. ate (input tokens text end) w (i + 1) - (i + 1)) p (pick r 1 0)
+unfolding Flags secondFor
+flags-second tokens text w end (Accepted i n k) r e = sym (one-eaten (input tokens text end) w (i + 1) r e)
+flags-second tokens text w end (Refused x) r e = tt
+
+module _ (tokens text w : List ℕ) (end i : ℕ) (t : Token) (r : Bool) where
+  pub ate-word : t ≡ tokenAt tokens end i → r ≡ isWord text w t → r ≡ true → i + 1 ≡ ate (input tokens text end) w i
+  unfolding ate
+  ate-word a b c = rw (← a, ← b, c)
+
+  pub ate-nothing : t ≡ tokenAt tokens end i → r ≡ isWord text w t → r ≡ false → i ≡ ate (input tokens text end) w i
+  unfolding ate
+  ate-nothing a b c = rw (← a, ← b, c)
+
+pub eat-is : (s : Input) (w : List ℕ) (p : Parsed) (i n k j : ℕ) → p ≡ Accepted i n k → j ≡ ate s w i → Accepted j n k ≡ moved (eat s w) p
+unfolding moved movedTo eat
+eat-is s w p i n k j e f = rw (e, f)
+
+module _ (tokens text w : List ℕ) (end : ℕ) (p : Parsed) (t : Token) (r : Bool) where
+  eaten-by : t ≡ tokenFor tokens end p → r ≡ isWord text w t → Flags (λ i. ate (input tokens text end) w i - i) p (pick r 1 0)
+  eaten-by a b = flags-next tokens text w end p r (b ∙ ap (isWord text w) a)
+
+  pub eaten-one : t ≡ tokenFor tokens end p → r ≡ isWord text w t → r ≡ true → Flags (λ i. ate (input tokens text end) w i - i) p 1
+  eaten-one a b c = rw c at (eaten-by a b)
+
+  pub eaten-none : t ≡ tokenFor tokens end p → r ≡ isWord text w t → r ≡ false → Flags (λ i. ate (input tokens text end) w i - i) p 0
+  eaten-none a b c = rw c at (eaten-by a b)
+
+  second-by : t ≡ secondFor tokens end p → r ≡ isWord text w t → Flags (λ i. ate (input tokens text end) w (i + 1) - (i + 1)) p (pick r 1 0)
+  second-by a b = flags-second tokens text w end p r (b ∙ ap (isWord text w) a)
+
+  pub second-one : t ≡ secondFor tokens end p → r ≡ isWord text w t → r ≡ true → Flags (λ i. ate (input tokens text end) w (i + 1) - (i + 1)) p 1
+  second-one a b c = rw c at (second-by a b)
+
+  pub second-none : t ≡ secondFor tokens end p → r ≡ isWord text w t → r ≡ false → Flags (λ i. ate (input tokens text end) w (i + 1) - (i + 1)) p 0
+  second-none a b c = rw c at (second-by a b)
+
+-- ---- other refusals of names and tokens
+
+pub as-name : (code : ℕ) (s : List ℕ) (c : ℕ) → c ≡ identRefusal s → c ≡ 0 → 0 ≡ refusedAs code s
+unfolding refusedAs
+as-name code s c e h = rw (← e, eq-eqb c 0 h)
+
+pub as-code : (code : ℕ) (s : List ℕ) (c : ℕ) → c ≡ identRefusal s → (c ≡ 0 → ⊥) → code ≡ refusedAs code s
+unfolding refusedAs
+as-code code s c e h = rw (← e, ne-eqb c 0 h)
+
+module _ (tokens text : List ℕ) (end code i n k : ℕ) (p : Parsed) (t : Token) (r : Bool) (l : List ℕ) where
+  pub other-read : (l′ : List ℕ) (b : List ℕ) (c : ℕ) (x : Parsed) → p ≡ Accepted i n k → t ≡ tokenAt tokens end i → r ≡ isSymbol t → r ≡ true → b ≡ spelled text (t .word1) → c ≡ refusedAs code b → Met (identAt t (t .word1) c i) n k l l′ x → Chained (nameBy (input tokens text end) (refusedAs code) (λ w. w)) p l l′ x
+  other-read = by-name (input tokens text end) (refusedAs code) (λ w. w) (nameBy (input tokens text end) (refusedAs code) (λ w. w)) (λ j. refl) i n k p t r l
+
+  pub other-other : (u : Refusal) → p ≡ Accepted i n k → t ≡ tokenAt tokens end i → r ≡ isSymbol t → r ≡ false → u ≡ unexpected t i → Chained (nameBy (input tokens text end) (refusedAs code) (λ w. w)) p l l (Refused u)
+  other-other = by-other (input tokens text end) (refusedAs code) (λ w. w) (nameBy (input tokens text end) (refusedAs code) (λ w. w)) (λ j. refl) i n k p t r l
+
+module _ (tokens text : List ℕ) (end kind code i n k : ℕ) (p : Parsed) (t : Token) where
+  pub after-kind : p ≡ Accepted i n k → t ≡ tokenAt tokens end i → t .kind ≡ kind → Refused (refusal code (t .pos) (i + 1)) ≡ moved (refuseAfter (input tokens text end) kind code) p
+  unfolding moved movedTo refuseAfter
+  after-kind e a h = let g : tokenAt tokens end i .kind ≡ kind = rw a at h in rw (e, a, eq-eqb (tokenAt tokens end i .kind) kind g)
+
+  pub after-other : (u : Refusal) → p ≡ Accepted i n k → t ≡ tokenAt tokens end i → (t .kind ≡ kind → ⊥) → u ≡ unexpected t i → Refused u ≡ moved (refuseAfter (input tokens text end) kind code) p
+  unfolding moved movedTo refuseAfter
+  after-other u e a h d = rw (d, e, ← a, ne-eqb (t .kind) kind h)
+
+pub near-at-next : (p : Parsed) (i n k : ℕ) → Near p → p ≡ Accepted i n k → i < 4294967296
+near-at-next p i n k h e = near-at p i n k h e .at

@@ -108,3 +108,8 @@ Near (Refused e) = Unit {0}
 unfoldable pub Small : Parsed → Type 0
 Small (Accepted i n k) = k < 65536
 Small (Refused e) = Unit {0}
+
+-- x are the flags that go by the tokens at p
+unfoldable pub Flags : (ℕ → ℕ) → Parsed → ℕ → Type 0
+Flags flags (Accepted i n k) x = x ≡ flags i
+Flags flags (Refused e) x = Unit {0}

@@ -8,13 +8,13 @@ use tokens::peek;
 use trees::Head;
 use trees::Rec;
 ghost use mathlib.Core.Path.{_≡_};
-ghost use Prim.Native.Nat.{ℕ, _+_, _*_, _/_, _≤_, _<_};
+ghost use Prim.Native.Nat.{ℕ, _+_, _-_, _*_, _/_, _≤_, _<_};
 ghost use lib.ListN.{length};
 ghost use Rattle.trees.specs.Tree.{head};
 ghost use Rattle.tokens.specs.Token.{tokenAt, pastLast, isLparen, isRparen, isAt, isWord};
 ghost use Rattle.tokens.specs.Input.{Input, input};
-ghost use Rattle.steps.specs.Outcome.{parent, unexpected, expectAt, refuseFrom, constRefusal, identAt, parseIdent, parseConst};
-ghost use Rattle.steps.specs.Met.{Met, Chained, moved, inside, Closed, Leafed, tokenFor, secondFor, goesOn, endsAt, Ready, Below, Near, Small};
+ghost use Rattle.steps.specs.Outcome.{parent, row, ate, eat, nameBy, refusedAs, refuseAfter, unexpected, expectAt, refuseFrom, constRefusal, identAt, parseIdent, parseConst};
+ghost use Rattle.steps.specs.Met.{Met, Chained, moved, inside, Closed, Leafed, tokenFor, secondFor, goesOn, endsAt, Ready, Below, Near, Small, Flags};
 
 // Where reading stopped, and why: document 01's number and place, and how many tokens were consumed.
 pub struct Refusal {
@@ -415,4 +415,118 @@ pub fn const_node(
     let children = inside(p);
     let q = parse_const(tokens, text, end, out, children);
     close_at(tokens, end, out, p, kind, 0, q)
+}
+
+// An identifier, refused with `code` where it is none.
+pub fn parse_name_or(
+    tokens: &[u8],
+    text: &[u8],
+    end: u32,
+    out: &mut [u8],
+    p: Parsed,
+    code: u8,
+) -> Parsed
+    requires { ⌜ Ready 4 (input (now tokens) (now text) end) p ⌝ }
+    ensures { λ r. ⌜ Chained (nameBy (input (now (tokens .entry)) (now (text .entry)) end) (refusedAs code) (λ w. w)) p (now (out .entry)) (now (out .exit)) r ⌝ }
+{
+    let Parsed::Accepted { next, count, items } = p else {
+        return p;
+    };
+    let t = peek(tokens, end, next);
+    if t.is_symbol() {
+        let c = refused_as(code, spelling(text, t.word1));
+        return put_ident(out, next, count, items, t, t.word1, c);
+    }
+    Parsed::Refused(unexpected(t, next))
+}
+
+fn refused_as(code: u8, s: &[u8]) -> u8
+    ensures { λ r. ⌜ r ≡ refusedAs code (now (s .entry)) ⌝ }
+{
+    if ident_refusal(s) == 0 {
+        return 0;
+    }
+    code
+}
+
+// A refusal at a token that is consumed, where it is of this kind.
+pub fn refuse_after(tokens: &[u8], text: &[u8], end: u32, p: Parsed, kind: u8, code: u8) -> Parsed
+    requires { ⌜ Near p ⌝ }
+    ensures { λ r. ⌜ r ≡ moved (refuseAfter (input (now (tokens .entry)) (now (text .entry)) end) kind code) p ⌝ }
+{
+    let Parsed::Accepted { next, count: _, items: _ } = p else {
+        return p;
+    };
+    let t = peek(tokens, end, next);
+    if t.kind == kind {
+        return Parsed::Refused(Refusal {
+            code,
+            place: t.pos,
+            taken: next + 1,
+        });
+    }
+    Parsed::Refused(unexpected(t, next))
+}
+
+// eat_sym_str of the Rust, at an index: the index after the word w, where it stands there.
+pub fn ate(tokens: &[u8], text: &[u8], end: u32, at: usize, w: &[u8]) -> usize
+    requires { ⌜ at < 4294967296 ⌝ }
+    ensures { λ r. ⌜ r ≡ ate (input (now (tokens .entry)) (now (text .entry)) end) (now (w .entry)) at ⌝ }
+{
+    let t = peek(tokens, end, at);
+    if t.is_word(text, w) {
+        return at + 1;
+    }
+    at
+}
+
+// The same at a state.
+pub fn eat(tokens: &[u8], text: &[u8], end: u32, p: Parsed, w: &[u8]) -> Parsed
+    requires { ⌜ Near p ⌝ }
+    ensures { λ r. ⌜ r ≡ moved (eat (input (now (tokens .entry)) (now (text .entry)) end) (now (w .entry))) p ⌝ }
+{
+    let Parsed::Accepted { next, count, items } = p else {
+        return p;
+    };
+    let after = ate(tokens, text, end, next, w);
+    Parsed::Accepted {
+        next: after,
+        count,
+        items,
+    }
+}
+
+// 1 where the word w stands next, and 0 otherwise.
+pub fn eaten(tokens: &[u8], text: &[u8], end: u32, p: Parsed, w: &[u8]) -> u8
+    ensures { λ r. ⌜ Flags (λ i. ate (input (now (tokens .entry)) (now (text .entry)) end) (now (w .entry)) i - i) p r ⌝ }
+{
+    let t = next_token(tokens, end, p);
+    if t.is_word(text, w) {
+        return 1;
+    }
+    0
+}
+
+// The same of the token after the next one.
+pub fn eaten_second(tokens: &[u8], text: &[u8], end: u32, p: Parsed, w: &[u8]) -> u8
+    requires { ⌜ Near p ⌝ }
+    ensures { λ r. ⌜ Flags (λ i. ate (input (now (tokens .entry)) (now (text .entry)) end) (now (w .entry)) (i + 1) - (i + 1)) p r ⌝ }
+{
+    let t = second_token(tokens, end, p);
+    if t.is_word(text, w) {
+        return 1;
+    }
+    0
+}
+
+// Identifiers up to a `)`, which is left.
+pub fn parse_idents(tokens: &[u8], text: &[u8], end: u32, out: &mut [u8], p: Parsed) -> Parsed
+    requires { ⌜ Ready 4 (input (now tokens) (now text) end) p ⌝ }
+    ensures { λ r. ⌜ Chained (row (input (now (tokens .entry)) (now (text .entry)) end) (parseIdent (input (now (tokens .entry)) (now (text .entry)) end))) p (now (out .entry)) (now (out .exit)) r ⌝ }
+{
+    let mut q = p;
+    while goes_on(tokens, end, q) {
+        q = parse_ident(tokens, text, end, out, q);
+    }
+    q
 }

@@ -1,0 +1,22 @@
+use Rattle.steps.proofs.StepLaws.{ate-word, ate-nothing}
+use borrow.Author.Needs.{needs}
+use Rattle.steps.proofs.ate.Statement.{statement}
+use Rattle.steps.proofs.ate.Tie as tie
+
+peek-requires : tie.Need-peek-requires
+peek-requires c κs = search needs
+
+is-word-requires : tie.Need-is-word-requires
+is-word-requires c κs = search needs
+
+add-result : tie.Need-add-result
+add-result c = search needs
+
+returns : tie.Need-returns
+returns c = search ate-word
+
+returns-2 : tie.Need-returns-2
+returns-2 c = search ate-nothing
+
+pub ate-spec : {M : Type 1} → statement M
+ate-spec = tie.close (tie.spec peek-requires is-word-requires add-result returns returns-2)

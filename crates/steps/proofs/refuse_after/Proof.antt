@@ -1,0 +1,41 @@
+use Rattle.steps.proofs.StepLaws.{moved-stays, near-next, after-kind, after-other}
+use borrow.Author.Needs.{needs}
+use Rattle.steps.proofs.refuse_after.Statement.{statement}
+use Rattle.steps.proofs.refuse_after.Tie as tie
+
+enum-known-p : tie.Need-enum-known-p
+enum-known-p c = search needs
+
+enum-told : tie.Need-enum-told
+enum-told c = search needs
+
+returns : tie.Need-returns
+returns c = search moved-stays
+
+peek-requires : tie.Need-peek-requires
+peek-requires c κs = search needs
+
+add-t10 : tie.Need-add-t10
+add-t10 c = search near-next
+
+returns-2 : tie.Need-returns-2
+returns-2 c = search after-kind
+
+unexpected-requires : tie.Need-unexpected-requires
+unexpected-requires c κs = search needs
+
+returns-3 : tie.Need-returns-3
+returns-3 c = search after-other
+
+pub refuse-after-spec : {M : Type 1} → statement M
+refuse-after-spec =
+    tie.close
+    (tie.spec
+    enum-known-p
+    enum-told
+    returns
+    peek-requires
+    add-t10
+    returns-2
+    unexpected-requires
+    returns-3)
