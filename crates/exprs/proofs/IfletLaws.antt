@@ -44,7 +44,7 @@ module _ (s : Input) where
       (then-bounded (1 + 1) (3 + 3) (0 + 0) u c d s (expect-lparen s ⊳ expect-word s w) f
       (then-bounded 1 3 0 1 3 0 s (expect-lparen s) (expect-word s w) (lparen-bounded s) (word-bounded s w)) b) (rparen-bounded s)
 
-  either-bounded : Bounded 1 1 0 s (parseIfletOrExpr s)
+  pub either-bounded : Bounded 1 1 0 s (parseIfletOrExpr s)
   unfolding parseIfletOrExpr
   either-bounded =
       next-bounded 1 1 0 s isLparen (ifSecond s (isWord (s .text) word-if-let) iflet (ifSecond s (isWord (s .text) word-if) if· (parseExpr s 64))) (parseExpr s 64)

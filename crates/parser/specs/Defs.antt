@@ -41,9 +41,13 @@ declFlags s i =
 unfoldable pub declModifiers : Input → Reader
 declModifiers s = λ i. accept ∅ (afterRec s i)
 
--- after `decl`: modifiers, the term, its argument types, its result
+-- the term, its argument types, its result
+unfoldable pub declNames : Input → Reader
+declNames s = parseIdent s ⊳ expect-lparen s ⊳ row s (parseIdent s) ⊳ expect-rparen s ⊳ parseIdent s
+
+-- after `decl`
 unfoldable pub parseDecl : Input → Reader
-parseDecl s = flagged s Decl (declFlags s) (declModifiers s ⊳ parseIdent s ⊳ expect-lparen s ⊳ row s (parseIdent s) ⊳ expect-rparen s ⊳ parseIdent s)
+parseDecl s = flagged s Decl (declFlags s) (declModifiers s ⊳ declNames s)
 
 -- ---- attributes
 
@@ -80,9 +84,13 @@ parseExtern s =
 
 -- ---- extractors
 
--- after `extractor`: `(term parameters)` and the template
+-- `(term parameters)`
+unfoldable pub etorHead : Input → Reader
+etorHead s = expect-lparen s ⊳ parseIdent s ⊳ row s (parseIdent s) ⊳ expect-rparen s
+
+-- after `extractor`: its head and the template
 unfoldable pub parseEtor : Input → Reader
-parseEtor s = parent s Extractor 0 (expect-lparen s ⊳ parseIdent s ⊳ row s (parseIdent s) ⊳ expect-rparen s ⊳ parsePattern s 64)
+parseEtor s = parent s Extractor 0 (etorHead s ⊳ parsePattern s 64)
 
 -- ---- rules
 
@@ -108,11 +116,13 @@ rulePriority s place = λ i.
 unfoldable pub ruleFlags : Input → ℕ → ℕ
 ruleFlags s i = flag (isSymbol (peek s i)) 1 + flag (isInt (peek s (i + flag (isSymbol (peek s i)) 1))) 2
 
--- after `rule`: name, priority, pattern, if-lets, expression
+-- name, priority, pattern, if-lets, expression; 24 stands at `place`
+unfoldable pub ruleParts : Input → ℕ → Reader
+ruleParts s place = ruleName s ⊳ rulePriority s place ⊳ parsePattern s 64 ⊳ many (size s) (noIflet s) (parseIfletOrExpr s) ⊳ parseIfletOrExpr s
+
+-- after `rule`
 unfoldable pub parseRule : Input → Reader
-parseRule s =
-    flagged s Rule (ruleFlags s) (λ i.
-    (ruleName s ⊳ rulePriority s (posAt s i) ⊳ parsePattern s 64 ⊳ many (size s) (noIflet s) (parseIfletOrExpr s) ⊳ parseIfletOrExpr s) i)
+parseRule s = flagged s Rule (ruleFlags s) (λ i. ruleParts s (posAt s i) i)
 
 -- ---- converters and pragmas
 
@@ -140,18 +150,28 @@ isUncovered text t =
     (pick (isWord text word-form t) true
     (isWord text word-instantiate t)))))
 
+-- a definition whose word is none of the covered ones: 27 or 12, at the word
+unfoldable pub otherDef : Input → Reader
+otherDef s =
+    ifSecond s (isUncovered (s .text)) (expect-lparen s ⊳ refuseAfter s 3 27)
+    (expect-lparen s ⊳ refuseAfter s 3 12)
+
+-- a definition, by the word after its `(`
+unfoldable pub restDef : Input → Reader
+restDef s =
+    ifSecond s (isWord (s .text) word-rule) (worded s word-rule (parseRule s))
+    (ifSecond s (isWord (s .text) word-extractor) (worded s word-extractor (parseEtor s))
+    (ifSecond s (isWord (s .text) word-extern) (worded s word-extern (parseExtern s))
+    (ifSecond s (isWord (s .text) word-convert) (worded s word-convert (parseConverter s))
+    (otherDef s))))
+
 unfoldable pub parseDef : Input → Reader
 parseDef s =
     ifSecond s (isWord (s .text) word-pragma) (worded s word-pragma (parsePragma s))
     (ifSecond s (isWord (s .text) word-type) (worded s word-type (parseType s))
     (ifSecond s (isWord (s .text) word-decl) (worded s word-decl (parseDecl s))
     (ifSecond s (isWord (s .text) word-attr) (worded s word-attr (parseAttr s))
-    (ifSecond s (isWord (s .text) word-rule) (worded s word-rule (parseRule s))
-    (ifSecond s (isWord (s .text) word-extractor) (worded s word-extractor (parseEtor s))
-    (ifSecond s (isWord (s .text) word-extern) (worded s word-extern (parseExtern s))
-    (ifSecond s (isWord (s .text) word-convert) (worded s word-convert (parseConverter s))
-    (ifSecond s (isUncovered (s .text)) (expect-lparen s ⊳ refuseAfter s 3 27)
-    (expect-lparen s ⊳ refuseAfter s 3 12)))))))))
+    (restDef s))))
 
 -- all definitions, to the last token
 unfoldable pub parseDefs : Input → Reader

@@ -13,12 +13,14 @@ use Rattle.trees.proofs.Laws.{size-none, size-one, size-node, size-⧺, count-n
 use Rattle.records.specs.Slots.{put, writes}
 use Rattle.records.proofs.Laws.{writes-none, writes-⧺, writes-node}
 use Rattle.tokens.specs.declared.Token.{Token}
-use Rattle.tokens.specs.Token.{tokenAt}
+use Rattle.trees.specs.Names.{spelled}
+use Rattle.tokens.specs.Token.{tokenAt, isSymbol}
+use Rattle.tokens.specs.Ident.{identRefusal}
 use Rattle.tokens.specs.Input.{Input, input, peek}
 use Rattle.steps.specs.declared.Refusal.{Refusal}
 use Rattle.steps.specs.declared.Parsed.{Parsed}
 use Rattle.steps.specs.declared.Parsed.the-variants.{Accepted, Refused}
-use Rattle.steps.specs.Outcome.{Outcome, accept, refuse, Reader, refusal, before, andThen, _⊳_, thenAt, nodeOf, parent, bare, leaf, nothing, refuseFrom, flagged, ifNext, ifSecond, ate, eat, refuseAfter, unexpected, expectAt}
+use Rattle.steps.specs.Outcome.{Outcome, accept, refuse, Reader, refusal, before, andThen, _⊳_, thenAt, nodeOf, parent, bare, leaf, nothing, refuseFrom, flagged, ifNext, ifSecond, ate, eat, refuseAfter, unexpected, expectAt, identAt, nameBy, parseIdent}
 use Rattle.steps.specs.Met.{Taken, Met, Chained, ChainedAt, movedTo, moved, inside, Closed, Leafed, tokenFor, secondFor, Flags}
 
 -- ---- outcomes
@@ -58,7 +60,7 @@ unfolding thenAt andThen
 plain-then k (accept ts i) f = refl
 plain-then k (refuse e) f = refl
 
-closed-met : (o : Outcome) (h : Head) (i n k : ℕ) (l l₁ l₂ : List ℕ) (q r : Parsed) → Closed h (Accepted i n k) q l₁ l₂ r → Met o (n + 1) 0 l l₁ q → Met (nodeOf h o) n k l l₂ r
+pub closed-met : (o : Outcome) (h : Head) (i n k : ℕ) (l l₁ l₂ : List ℕ) (q r : Parsed) → Closed h (Accepted i n k) q l₁ l₂ r → Met o (n + 1) 0 l l₁ q → Met (nodeOf h o) n k l l₂ r
 unfolding Closed Met nodeOf
 closed-met (accept ts j) h i n k l l₁ l₂ (Accepted x m c) r z y =
     rw (z .0)
@@ -129,7 +131,7 @@ unfolding bare
 bare-read kind f p q₀ q r l l₁ l₂ c e m = over f (λ i. head kind 0 0 0 0) (head kind 0 0 0 0) p q r l l₁ l₂ (λ i n k z. refl) c (rw e at m)
 
 -- a leaf
-leaf-met : (h : Head) (i n k : ℕ) (l l′ : List ℕ) (r : Parsed) → Leafed h (Accepted i n k) l l′ r → Met (accept (node h ∅ ▸ ∅) (i + 1)) n k l l′ r
+pub leaf-met : (h : Head) (i n k : ℕ) (l l′ : List ℕ) (r : Parsed) → Leafed h (Accepted i n k) l l′ r → Met (accept (node h ∅ ▸ ∅) (i + 1)) n k l l′ r
 unfolding Leafed Met
 leaf-met h i n k l l′ r c =
     rw (c .0)
@@ -150,7 +152,7 @@ leaf-read tokens text end h g (Accepted i n k) r l l′ c e = leaf-met (h (token
 leaf-read tokens text end h g (Refused x) r l l′ c e = leaf-gone g x r l l′ c
 
 -- two readers that agree at a state
-agree : (f g : Reader) (p r : Parsed) (l l′ : List ℕ) → ((i n k : ℕ) → p ≡ Accepted i n k → g i ≡ f i) → Chained g p l l′ r → Chained f p l l′ r
+pub agree : (f g : Reader) (p r : Parsed) (l l′ : List ℕ) → ((i n k : ℕ) → p ≡ Accepted i n k → g i ≡ f i) → Chained g p l l′ r → Chained f p l l′ r
 unfolding Chained
 agree f g (Accepted i n k) r l l′ same m = subst (λ (x : Outcome). Met x n k l l′ r) (same i n k refl) m
 agree f g (Refused e) r l l′ same m = m
@@ -216,3 +218,14 @@ pub refusing-after : (s : Input) (kind code : ℕ) (q r : Parsed) (l : List ℕ)
 unfolding moved Chained
 refusing-after s kind code (Accepted i n k) r l e = rw e (after-met s kind code i n k l (eqb (peek s i .kind) kind) refl)
 refusing-after s kind code (Refused d) r l e = e
+
+-- a name is one token
+name-one : (s : Input) (judge : List ℕ → ℕ) (range : ℕ → ℕ) (i n k : ℕ) (l l′ : List ℕ) (j m c : ℕ) (a b : Bool) → isSymbol (peek s i) ≡ a → eqb (judge (spelled (s .text) (peek s i .word1))) 0 ≡ b → Met (nameBy s judge range i) n k l l′ (Accepted j m c) → j ≡ i + 1
+unfolding nameBy identAt Met
+name-one s judge range i n k l l′ j m c true true e f h = rw (e, f) at h .ends
+name-one s judge range i n k l l′ j m c true false e f h = absurd (rw (e, f) at h)
+name-one s judge range i n k l l′ j m c false b e f h = absurd (rw e at h)
+
+pub ident-next : (s : Input) (i n k : ℕ) (l l′ : List ℕ) (j m c : ℕ) → Met (parseIdent s i) n k l l′ (Accepted j m c) → j ≡ i + 1
+unfolding parseIdent
+ident-next s i n k l l′ j m c h = name-one s identRefusal (λ w. w) i n k l l′ j m c (isSymbol (peek s i)) (eqb (identRefusal (spelled (s .text) (peek s i .word1))) 0) refl refl h

@@ -21,7 +21,7 @@ use Rattle.tokens.proofs.TokenLaws.{kind-inside, word-kind, const-kind}
 use Rattle.steps.specs.declared.Refusal.{Refusal}
 use Rattle.steps.specs.declared.Parsed.{Parsed}
 use Rattle.steps.specs.declared.Parsed.the-variants.{Accepted, Refused}
-use Rattle.steps.specs.Outcome.{Outcome, accept, refuse, Reader, refusal, before, andThen, _⊳_, nodeOf, parent, bare, leaf, nothing, refuseFrom, refuseAt, flagged, ate, eat, refuseAfter, refusedAs, ifNext, ifSecond, unexpected, expectAt, expect-lparen, expect-rparen, expect-at, expect-word, identAt, nameBy, parseIdent, constRefusal, parseConst}
+use Rattle.steps.specs.Outcome.{Outcome, accept, refuse, Reader, refusal, before, andThen, _⊳_, nodeOf, parent, bare, leaf, nothing, refuseFrom, refuseAt, flagged, ate, eat, refuseAfter, refusedAs, pragmaRefusal, ifNext, ifSecond, unexpected, expectAt, expect-lparen, expect-rparen, expect-at, expect-word, identAt, nameBy, parseIdent, constRefusal, parseConst}
 use Rattle.steps.specs.Met.{Taken, Met, Chained, ChainedAt, movedTo, moved, inside, At, Ready, Below, Near, Small}
 use Rattle.steps.proofs.MetLaws.{plain-at, token}
 
@@ -250,6 +250,9 @@ const-steady s = steady 1 2 s (parseConst s) (const-bounded s)
 
 pub other-bounded : (s : Input) (code : ℕ) → Bounded 1 2 0 s (nameBy s (refusedAs code) (λ w. w))
 other-bounded s code = record { sized = name-sized s (refusedAs code) (λ w. w) }
+
+pub pragma-bounded : (s : Input) → Bounded 1 2 0 s (nameBy s pragmaRefusal (λ w. w))
+pragma-bounded s = record { sized = name-sized s pragmaRefusal (λ w. w) }
 
 sized-eat : (s : Input) (w : List ℕ) (i : ℕ) (b : Bool) → isWord (s .text) w (peek s i) ≡ b → Sized 0 0 0 s i (accept ∅ (pick b (i + 1) i))
 sized-eat s w i true e = sized-less 1 3 0 0 0 0 s i (accept ∅ (i + 1)) (omega arith) (omega arith) (sized-token s i (met-there s i (isWord (s .text) w) (word-kinded (s .text) w) e))

@@ -29,7 +29,7 @@ use Rattle.steps.specs.declared.Refusal.{Refusal}
 use Rattle.steps.specs.declared.Parsed.{Parsed}
 use Rattle.steps.specs.declared.Parsed.the-variants.{Accepted, Refused}
 use Rattle.steps.proofs.Parsed.{the-type}
-use Rattle.steps.specs.Outcome.{Outcome, accept, refuse, refusal, Reader, refuseFrom, ate, eat, refuseAfter, refusedAs, unexpected, expectAt, identAt, nameBy, parseIdent, constRefusal, parseConst}
+use Rattle.steps.specs.Outcome.{Outcome, accept, refuse, refusal, Reader, refuseFrom, ate, eat, refuseAfter, refusedAs, pragmaRefusal, unexpected, expectAt, identAt, nameBy, parseIdent, constRefusal, parseConst}
 use Rattle.steps.specs.Met.{Taken, Met, Chained, movedTo, moved, inside, Closed, Leafed, tokenFor, secondFor, goesOn, endsAt, At, Ready, Below, Near, Small, Flags}
 
 -- ---- a state that is no acceptance
@@ -216,6 +216,9 @@ ready-below c s p i n k h e = let a = ready-at c s p i n k h e in record { at = 
 pub next-fits : (c : ℕ) (s : Input) (p : Parsed) (i n k : ℕ) → Ready c s p → p ≡ Accepted i n k → Fits w64 (i + 1)
 next-fits c s p i n k h e = let a = ready-at c s p i n k h e in omega (arith, a .few, a .here)
 
+pub slot-fits : (c : ℕ) (s : Input) (p : Parsed) (i n k : ℕ) → Ready c s p → p ≡ Accepted i n k → Fits w64 (n + 1)
+slot-fits c s p i n k h e = let a = ready-at c s p i n k h e in omega (arith, a .few, a .here, a .room, a .slack)
+
 -- a symbol that is a constant starts inside the text
 starts-inside : (text : List ℕ) (a n x : ℕ) → getD (take n (drop a text)) 0 0 ≡ 36 → a < length text
 starts-inside [] zero n x e = let z : getD (take {0} {A = ℕ} n []) 0 0 ≡ 0 = rw (take-nil {A = ℕ} n) refl in absurd (omega (arith, z))
@@ -368,3 +371,18 @@ module _ (tokens text : List ℕ) (end kind code i n k : ℕ) (p : Parsed) (t : 
 
 pub near-at-next : (p : Parsed) (i n k : ℕ) → Near p → p ≡ Accepted i n k → i < 4294967296
 near-at-next p i n k h e = near-at p i n k h e .at
+
+pub no-pragma : (s : List ℕ) (c : ℕ) → c ≡ identRefusal s → c ≡ 0 → 17 ≡ pragmaRefusal s
+unfolding pragmaRefusal
+no-pragma s c e h = rw (← e, eq-eqb c 0 h)
+
+pub bad-pragma : (s : List ℕ) (c : ℕ) → c ≡ identRefusal s → (c ≡ 0 → ⊥) → c ≡ pragmaRefusal s
+unfolding pragmaRefusal
+bad-pragma s c e h = rw (← e, ne-eqb c 0 h)
+
+module _ (tokens text : List ℕ) (end i n k : ℕ) (p : Parsed) (t : Token) (r : Bool) (l : List ℕ) where
+  pub pragma-read : (l′ : List ℕ) (b : List ℕ) (c : ℕ) (x : Parsed) → p ≡ Accepted i n k → t ≡ tokenAt tokens end i → r ≡ isSymbol t → r ≡ true → b ≡ spelled text (t .word1) → c ≡ pragmaRefusal b → Met (identAt t (t .word1) c i) n k l l′ x → Chained (nameBy (input tokens text end) pragmaRefusal (λ w. w)) p l l′ x
+  pragma-read = by-name (input tokens text end) pragmaRefusal (λ w. w) (nameBy (input tokens text end) pragmaRefusal (λ w. w)) (λ j. refl) i n k p t r l
+
+  pub pragma-other : (u : Refusal) → p ≡ Accepted i n k → t ≡ tokenAt tokens end i → r ≡ isSymbol t → r ≡ false → u ≡ unexpected t i → Chained (nameBy (input tokens text end) pragmaRefusal (λ w. w)) p l l (Refused u)
+  pragma-other = by-other (input tokens text end) pragmaRefusal (λ w. w) (nameBy (input tokens text end) pragmaRefusal (λ w. w)) (λ j. refl) i n k p t r l

@@ -13,7 +13,7 @@ ghost use lib.ListN.{length};
 ghost use Rattle.trees.specs.Tree.{head};
 ghost use Rattle.tokens.specs.Token.{tokenAt, pastLast, isLparen, isRparen, isAt, isWord};
 ghost use Rattle.tokens.specs.Input.{Input, input};
-ghost use Rattle.steps.specs.Outcome.{parent, row, ate, eat, nameBy, refusedAs, refuseAfter, unexpected, expectAt, refuseFrom, constRefusal, identAt, parseIdent, parseConst};
+ghost use Rattle.steps.specs.Outcome.{parent, row, ate, eat, nameBy, refusedAs, pragmaRefusal, refuseAfter, unexpected, expectAt, refuseFrom, constRefusal, identAt, parseIdent, parseConst};
 ghost use Rattle.steps.specs.Met.{Met, Chained, moved, inside, Closed, Leafed, tokenFor, secondFor, goesOn, endsAt, Ready, Below, Near, Small, Flags};
 
 // Where reading stopped, and why: document 01's number and place, and how many tokens were consumed.
@@ -529,4 +529,30 @@ pub fn parse_idents(tokens: &[u8], text: &[u8], end: u32, out: &mut [u8], p: Par
         q = parse_ident(tokens, text, end, out, q);
     }
     q
+}
+
+// A name after which reading is refused with 17, or with what the name is refused for.
+pub fn parse_pragma_name(tokens: &[u8], text: &[u8], end: u32, out: &mut [u8], p: Parsed) -> Parsed
+    requires { ⌜ Ready 4 (input (now tokens) (now text) end) p ⌝ }
+    ensures { λ r. ⌜ Chained (nameBy (input (now (tokens .entry)) (now (text .entry)) end) pragmaRefusal (λ w. w)) p (now (out .entry)) (now (out .exit)) r ⌝ }
+{
+    let Parsed::Accepted { next, count, items } = p else {
+        return p;
+    };
+    let t = peek(tokens, end, next);
+    if t.is_symbol() {
+        let c = pragma_refusal(spelling(text, t.word1));
+        return put_ident(out, next, count, items, t, t.word1, c);
+    }
+    Parsed::Refused(unexpected(t, next))
+}
+
+fn pragma_refusal(s: &[u8]) -> u8
+    ensures { λ r. ⌜ r ≡ pragmaRefusal (now (s .entry)) ⌝ }
+{
+    let c = ident_refusal(s);
+    if c == 0 {
+        return 17;
+    }
+    c
 }

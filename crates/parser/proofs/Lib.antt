@@ -1,0 +1,5 @@
+pub mod TypeLaws
+pub mod ModifierLaws
+pub mod DeclLaws
+pub mod RuleLaws
+pub mod DefLaws
