@@ -1,3 +1,5 @@
 pub mod Laws
 pub mod ResultLaws
 pub mod Reading
+pub mod RecsLaws
+pub mod BackLaws

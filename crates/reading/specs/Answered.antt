@@ -1,0 +1,20 @@
+-- What an entry answers: the returned number and every byte of the output.
+use Prim.Native.Nat.{ℕ, _*_, _-_, _≤_}
+use mathlib.Core.Path.{_≡_}
+use mathlib.Core.List.{List, _++_}
+use lib.ListN.{length, take, replicate}
+use lib.Dec.{leb}
+use Rattle.trees.specs.Choice.{pick}
+use Rattle.records.specs.Slots.{slots}
+use Rattle.records.specs.Result.{accepted, refused}
+use Rattle.parser.specs.Reading.{Reading, number, bytes}
+
+-- the number r, and an output of n bytes that holds l
+pub record Answered (g : Reading) (n : ℕ) (l : List ℕ) (r : ℕ) : Type 0 where
+  pub returns : r ≡ number g
+  pub output : l ≡ bytes n g
+
+-- n records are kept with zeros after them, or 6
+pub record Settled (n : ℕ) (l l′ : List ℕ) (r : ℕ) : Type 0 where
+  pub returns : r ≡ pick (leb n (slots l)) (accepted n) (refused 6 0)
+  pub output : l′ ≡ pick (leb n (slots l)) (take (n * 24) l ++ replicate (length l - n * 24) 0) (replicate (length l) 0)
