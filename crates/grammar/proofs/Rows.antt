@@ -1,0 +1,55 @@
+-- Parts that are read with their depth, and rows of them up to a `)`. Assumes nothing.
+use Prim.Native.Nat.{ℕ, _+_, _<_, _≤_}
+use native.Mathlib.Omega.{arith}
+use mathlib.Core.Path.{_≡_}
+use Rattle.trees.specs.Tree.{Trees, count}
+use Rattle.tokens.specs.Input.{Input, size}
+use Rattle.steps.specs.Outcome.{Reader, row}
+use Rattle.grammar.specs.Lexical.{Close, At}
+use Rattle.grammar.specs.Grammar.{Part, list, Gram, empty, cons}
+use Rattle.grammar.specs.Depth.{deepest}
+use Rattle.grammar.proofs.Exact.{Rel, Exact, exact-iff, Many, done, next, exact-many}
+use Rattle.grammar.proofs.Lexemes.{closes}
+use Rattle.grammar.proofs.Laws.{least, deepest-⧺, begins, no-close, no-at, begun-there, fit}
+
+-- a part with trees at most d deep; the same before a `)`
+pub record Read (s : Input) (x : Part) (d i : ℕ) (ts : Trees) (j : ℕ) : Type 0 where
+  pub derives : Gram s x i j ts
+  pub shallow : deepest ts ≤ d
+
+pub record Shut (s : Input) (x : Part) (d i : ℕ) (ts : Trees) (j : ℕ) : Type 0 where
+  pub derives : Gram s x i j ts
+  pub shallow : deepest ts ≤ d
+  pub shuts : Close s j
+
+-- an item takes a token that is there
+pub item-on : {s : Input} {x : Part} {i j : ℕ} {ts : Trees} → least x ≡ 1 → Gram s x i j ts → (i < j) × (i < size s)
+item-on e p = (omega (arith, fit p .on), begun-there (begins p e))
+
+-- what follows an item of a row is no `@`
+row-at : {s : Input} {x : Part} {i j : ℕ} {ts : Trees} → least x ≡ 1 → Gram s (list x) i j ts → Close s j → At s i → ⊥
+row-at e empty c a = omega (arith, c .is, a .is)
+row-at e (cons p ps) c a = no-at (begins p e) a
+
+-- EVERY ROW up to a `)`: items that are exact for R, which is Read and what a token that is no `@` adds to it
+module _ {s : Input} {x : Part} {d : ℕ} {R : Rel} {sub : Reader} (step : least x ≡ 1) (to : (i : ℕ) (ts : Trees) (j : ℕ) → R i ts j → Read s x d i ts j)
+    (from : (i : ℕ) (ts : Trees) (j : ℕ) → Read s x d i ts j → (At s j → ⊥) → R i ts j) (exact : Exact sub R) where
+  row-there : {k i j : ℕ} {ts : Trees} → Many (Close s) (λ _. R) k i ts j → Shut s (list x) d i ts j
+  unfolding deepest
+  row-there (done c) = record { derives = empty; shallow = omega arith; shuts = c }
+  row-there (next {ts = ts} {us = us} n r rs) =
+      let a = row-there rs in let b = to _ _ _ r in record { derives = cons (b .derives) (a .derives); shallow = omega (arith, b .shallow, a .shallow, deepest-⧺ ts us); shuts = a .shuts }
+
+  row-back : {i j : ℕ} {ts : Trees} (k : ℕ) → Gram s (list x) i j ts → deepest ts ≤ d → Close s j → Many (Close s) (λ _. R) k i ts j
+  row-back k empty h c = done c
+  row-back k (cons {t = t} {ts = ts} p ps) h c =
+      let z = deepest-⧺ t ts in
+      next (no-close (begins p step)) (from _ _ _ (record { derives = p; shallow = omega arith }) (row-at step ps c)) (row-back (k + count t) ps (omega arith) c)
+
+  pub exact-row-of : Exact (row s sub) (Shut s (list x) d)
+  exact-row-of =
+      exact-iff (exact-many (size s) (closes s .at) exact (λ i ts j r. item-on step (to i ts j r .derives)))
+      (λ i ts j r. row-there r) (λ i ts j r. row-back 0 (r .derives) (r .shallow) (r .shuts))
+
+pub exact-row : {s : Input} {x : Part} {d : ℕ} {sub : Reader} → least x ≡ 1 → Exact sub (Read s x d) → Exact (row s sub) (Shut s (list x) d)
+exact-row step exact = exact-row-of step (λ i ts j r. r) (λ i ts j r n. r) exact

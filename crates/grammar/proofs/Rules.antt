@@ -1,0 +1,270 @@
+-- The readers of if-lets and rules are exact. Assumes nothing.
+use Prim.Native.Nat.{ℕ, _+_, _<_, _≤_, max}
+use native.Mathlib.Omega.{arith}
+use mathlib.Core.Path.{_≡_, refl}
+use mathlib.Core.Bool.{Bool, true, false}
+use lib.Dec.{ltb, eqb}
+use borrow.Author.Tests.{ltb-true, ltb-false, eqb-true, eqb-false, lt-ltb, le-ltb, eq-eqb}
+use Rattle.trees.specs.Choice.{pick, choose}
+use Rattle.trees.specs.Tree.{Trees, node, ∅, _▸_, _⧺_, count, head}
+use Rattle.trees.proofs.Laws.{⧺-assoc}
+use Rattle.trees.specs.Ast.{IfLet, Rule, Priority, Pattern·Wildcard}
+use Rattle.words.specs.Bytes.{sameBytes}
+use Rattle.tokens.specs.Token.{isLparen, isInt, isWord}
+use Rattle.tokens.specs.Input.{Input, peek, posAt, size}
+use Rattle.steps.specs.Keywords.{word-if, word-if-let}
+use Rattle.steps.specs.declared.Refusal.{Refusal}
+use Rattle.steps.specs.Outcome.{accept, refuse, refusal, many}
+use Rattle.exprs.specs.Expr.{parseIflet, parseIfletIf, parseIfletOrExpr, noIflet}
+use Rattle.parser.specs.Defs.{ruleName, isI64, rulePriority, ruleFlags, ruleParts, parseRule}
+use Rattle.grammar.specs.Lexical.{Open, At, Word, Short, not-negative, negative, Iffy, iffy-let, iffy}
+use Rattle.grammar.specs.Grammar.{RuleName, named, unnamed, RulePriority, ranked, unranked, rule, iflet, expression, list, Gram, empty, cons, i-let, i-if, r-rule}
+use Rattle.grammar.specs.Depth.{deepest}
+use Rattle.grammar.proofs.Exact.{Exact, Tests, none, token, then, up, over, holds, fails, Many, done, next, exact-iff, exact-many, clash, same, Ground, no-refusal, same-ground}
+use Rattle.grammar.proofs.Known.{Known, known, nothings, _⊳⊳_, _⊳·_, parents, flags, nexts, seconds}
+use Rattle.grammar.proofs.Lexemes.{opens, symbols, integers, words, one-word, lparen, rparen, word, rule-ident}
+use Rattle.grammar.proofs.Laws.{least, deepest-⧺, begins, no-at}
+use Rattle.grammar.proofs.Rows.{Read, item-on}
+use Rattle.grammar.proofs.Pattern.{exact-pattern}
+use Rattle.grammar.proofs.Expr.{exact-expr}
+use Rattle.grammar.proofs.Options.{is-true, is-false}
+
+-- ---- the name and the priority
+
+pub data Called (s : Input) (i : ℕ) : Trees → ℕ → Type 0 where
+  called : {a f : ℕ} {ts : Trees} → RuleName s i a ts f → Called s i ts a
+
+pub data Weighed (s : Input) (i : ℕ) : Trees → ℕ → Type 0 where
+  weighed : {a f : ℕ} {ts : Trees} → RulePriority s i a ts f → Weighed s i ts a
+
+module _ (s : Input) where
+  abbrev name-shape : Known (ruleName s)
+  unfolding ruleName
+  name-shape = nexts (symbols s) (known (rule-ident s)) nothings
+
+  name-there : {i j : ℕ} {ts : Trees} → name-shape .Means i ts j → Called s i ts j
+  unfolding ruleName
+  name-there (holds k (token h)) = called (named h)
+  name-there (fails n none) = called (unnamed n)
+
+  name-back : {i j : ℕ} {ts : Trees} → Called s i ts j → name-shape .Means i ts j
+  unfolding ruleName
+  name-back (called (named h)) = holds (h .symbol) (token h)
+  name-back (called (unnamed n)) = fails n none
+
+  exact-name : Exact (ruleName s) (Called s)
+  exact-name = exact-iff (name-shape .exact) (λ i ts j r. name-there r) (λ i ts j r. name-back r)
+
+  short-tests : (i : ℕ) → Tests (isI64 (peek s i .word1) (peek s i .word2)) (Short s i)
+  unfolding isI64
+  short-tests i = go (ltb (peek s i .word2) 9223372036854775808) refl
+    where
+      go : (b : Bool) → ltb (peek s i .word2) 9223372036854775808 ≡ b → Tests (pick b (eqb (peek s i .word1) 0) (eqb (peek s i .word1) 18446744073709551615)) (Short s i)
+      go true p = record { yes = λ e. not-negative (eqb-true _ 0 e) (ltb-true _ _ p); no = λ e h. positive e (ltb-true _ _ p) h }
+        where
+          positive : eqb (peek s i .word1) 0 ≡ false → peek s i .word2 < 9223372036854775808 → Short s i → ⊥
+          positive e l (not-negative a b) = eqb-false _ 0 e a
+          positive e l (negative a b) = omega arith
+      go false p = record { yes = λ e. negative (eqb-true _ 18446744073709551615 e) (ltb-false _ _ p); no = λ e h. below e (ltb-false _ _ p) h }
+        where
+          below : eqb (peek s i .word1) 18446744073709551615 ≡ false → 9223372036854775808 ≤ peek s i .word2 → Short s i → ⊥
+          below e l (not-negative a b) = omega arith
+          below e l (negative a b) = eqb-false _ 18446744073709551615 e a
+
+  priority-there : (place i : ℕ) {ts : Trees} {j : ℕ} (a b : Bool) → isInt (peek s i) ≡ a → isI64 (peek s i .word1) (peek s i .word2) ≡ b
+      → choose a (λ _. pick b (accept (node (head Priority 0 0 (peek s i .word2) 0) ∅ ▸ ∅) (i + 1)) (refuse (refusal 24 place (i + 1)))) (λ _. accept ∅ i) ≡ accept ts j → Weighed s i ts j
+  priority-there place i true true p q e = same (Weighed s i) e (weighed (ranked (integers s .at i .yes p) (short-tests i .yes q)))
+  priority-there place i true false p q e = absurd (clash e)
+  priority-there place i false b p q e = same (Weighed s i) e (weighed (unranked (integers s .at i .no p)))
+
+  short-true : (i : ℕ) → Short s i → isI64 (peek s i .word1) (peek s i .word2) ≡ true
+  unfolding isI64
+  short-true i (not-negative a b) = rw (lt-ltb _ _ b, eq-eqb _ _ a)
+  short-true i (negative a b) = rw (le-ltb _ _ b, eq-eqb _ _ a)
+
+  priority-back : (place i : ℕ) {ts : Trees} {j : ℕ} → Weighed s i ts j → rulePriority s place i ≡ accept ts j
+  unfolding rulePriority
+  priority-back place i (weighed (ranked k h)) = rw (is-true (integers s) k, short-true i h)
+  priority-back place i (weighed (unranked n)) = rw (is-false (integers s) n)
+
+  priority-ground : (place i : ℕ) {e : Refusal} (a b : Bool)
+      → choose a (λ _. pick b (accept (node (head Priority 0 0 (peek s i .word2) 0) ∅ ▸ ∅) (i + 1)) (refuse (refusal 24 place (i + 1)))) (λ _. accept ∅ i) ≡ refuse e → Ground e
+  priority-ground place i true true z = absurd (no-refusal z)
+  priority-ground place i true false z = same-ground z (record { low = omega arith; high = omega arith })
+  priority-ground place i false b z = absurd (no-refusal z)
+
+  exact-priority : (place : ℕ) → Exact (rulePriority s place) (Weighed s)
+  unfolding rulePriority
+  exact-priority place =
+      record { sound = λ i e. priority-there place i (isInt (peek s i)) (isI64 (peek s i .word1) (peek s i .word2)) refl refl e; complete = λ i r. priority-back place i r; ground = λ i e z. priority-ground place i (isInt (peek s i)) (isI64 (peek s i .word1) (peek s i .word2)) z }
+
+  -- 1 named, 2 has priority
+  rule-flags : {i a b f g : ℕ} {n q : Trees} → RuleName s i a n f → RulePriority s a b q g → ruleFlags s i ≡ f + g
+  unfolding ruleFlags
+  rule-flags (named h) (ranked k x) = rw (is-true (symbols s) (h .symbol), is-true (integers s) k)
+  rule-flags (named h) (unranked n) = rw (is-true (symbols s) (h .symbol), is-false (integers s) n)
+  rule-flags {i} (unnamed m) (ranked k x) = let z : i + 0 ≡ i = omega arith in rw (is-false (symbols s) m, z, is-true (integers s) k)
+  rule-flags {i} (unnamed m) (unranked n) = let z : i + 0 ≡ i = omega arith in rw (is-false (symbols s) m, z, is-false (integers s) n)
+
+  name-flat : {i a f : ℕ} {ts : Trees} → RuleName s i a ts f → deepest ts ≡ 0
+  unfolding deepest
+  name-flat (named h) = omega arith
+  name-flat (unnamed n) = omega arith
+
+  priority-flat : {i a f : ℕ} {ts : Trees} → RulePriority s i a ts f → deepest ts ≡ 0
+  unfolding deepest
+  priority-flat (ranked k h) = omega arith
+  priority-flat (unranked n) = omega arith
+
+-- ---- if-lets
+
+-- an if-let, or an expression that does not begin as one
+data Either (s : Input) (i : ℕ) (ts : Trees) (j : ℕ) : Type 0 where
+  an-iflet : Read s iflet 64 i ts j → Either s i ts j
+  an-expression : (Iffy s i → ⊥) → Read s expression 64 i ts j → Either s i ts j
+
+iffy-of : {s : Input} {i j : ℕ} {ts : Trees} → Gram s iflet i j ts → Iffy s i
+iffy-of (i-let o w p e c) = iffy-let o w
+iffy-of (i-if o w e c) = iffy o w
+
+record Iflets (s : Input) (i : ℕ) (ts : Trees) (j : ℕ) : Type 0 where
+  derives : Gram s (list iflet) i j ts
+  shallow : deepest ts ≤ 64
+  ends : Iffy s j → ⊥
+
+module _ (s : Input) where
+  not-iffy : {i : ℕ} → (Word s word-if-let (i + 1) → ⊥) → (Word s word-if (i + 1) → ⊥) → Iffy s i → ⊥
+  not-iffy n m (iffy-let o w) = n w
+  not-iffy n m (iffy o w) = m w
+
+  not-open : {i : ℕ} → (Open s i → ⊥) → Iffy s i → ⊥
+  not-open n (iffy-let o w) = n o
+  not-open n (iffy o w) = n o
+
+  no-iflet-tests : (i : ℕ) → Tests (noIflet s i) (Iffy s i → ⊥)
+  unfolding noIflet
+  no-iflet-tests i = go (isLparen (peek s i)) (isWord (s .text) word-if-let (peek s (i + 1))) (isWord (s .text) word-if (peek s (i + 1))) refl refl refl
+    where
+      untrue : false ≡ true → ⊥
+      untrue e = let z : _≡_ {A = ℕ} 0 1 = cc in omega arith
+
+      go : (a b c : Bool) → isLparen (peek s i) ≡ a → isWord (s .text) word-if-let (peek s (i + 1)) ≡ b → isWord (s .text) word-if (peek s (i + 1)) ≡ c → Tests (pick a (pick b false (pick c false true)) true) (Iffy s i → ⊥)
+      go true true c p q r = record { yes = λ e. absurd (untrue e); no = λ e n. n (iffy-let (opens s .at i .yes p) (words s word-if-let .at (i + 1) .yes q)) }
+      go true false true p q r = record { yes = λ e. absurd (untrue e); no = λ e n. n (iffy (opens s .at i .yes p) (words s word-if .at (i + 1) .yes r)) }
+      go true false false p q r = record { yes = λ e. not-iffy (words s word-if-let .at (i + 1) .no q) (words s word-if .at (i + 1) .no r); no = λ e n. let z : _≡_ {A = ℕ} 0 1 = cc in omega arith }
+      go false b c p q r = record { yes = λ e. not-open (opens s .at i .no p); no = λ e n. let z : _≡_ {A = ℕ} 0 1 = cc in omega arith }
+
+  abbrev either-shape : Known (parseIfletOrExpr s)
+  unfolding parseIfletOrExpr parseIflet parseIfletIf
+  either-shape =
+      nexts (opens s)
+      (seconds (words s word-if-let)
+      (known (lparen s) ⊳· word s word-if-let ⊳⊳ parents s IfLet 0 (known (exact-pattern s 64) ⊳⊳ known (exact-expr s 64)) ⊳· rparen s)
+      (seconds (words s word-if)
+      (known (lparen s) ⊳· word s word-if ⊳⊳ parents s IfLet 0 (parents s Pattern·Wildcard 0 nothings ⊳⊳ known (exact-expr s 64)) ⊳· rparen s)
+      (known (exact-expr s 64))))
+      (known (exact-expr s 64))
+
+  either-there : {i j : ℕ} {ts : Trees} → either-shape .Means i ts j → Either s i ts j
+  unfolding parseIfletOrExpr parseIflet parseIfletIf deepest _⧺_
+  either-there (holds k (holds v (up (then (up (token o) w) (over (then {us = p} {vs = e} x y))) c))) =
+      an-iflet (record { derives = i-let o w (x .derives) (y .derives) c; shallow = omega (arith, deepest-⧺ p e, x .shallow, y .shallow) })
+  either-there (holds k (fails n (holds v (up (then (up (token o) w) (over (then (over none) y))) c)))) =
+      an-iflet (record { derives = i-if o w (y .derives) c; shallow = omega (arith, y .shallow) })
+  either-there (holds k (fails n (fails m r))) = an-expression (not-iffy n m) r
+  either-there (fails n r) = an-expression (not-open n) r
+
+  iflet-back : {i j : ℕ} {ts : Trees} → Gram s iflet i j ts → deepest ts ≤ 64 → either-shape .Means i ts j
+  unfolding parseIfletOrExpr parseIflet parseIfletIf deepest _⧺_ sameBytes least
+  iflet-back (i-let {p = p} {e = u} o w x e c) m =
+      let z = deepest-⧺ p u in
+      holds o (holds w (up (then (up (token o) w) (over (then (record { derives = x; shallow = omega arith; stops = λ _. no-at (begins e refl) }) (record { derives = e; shallow = omega arith })))) c))
+  iflet-back (i-if o w e c) m = holds o (fails (λ z. one-word w z refl) (holds w (up (then (up (token o) w) (over (then (over none) (record { derives = e; shallow = omega arith })))) c)))
+
+  expr-back : {i j : ℕ} {ts : Trees} → (Iffy s i → ⊥) → Read s expression 64 i ts j → either-shape .Means i ts j
+  unfolding parseIfletOrExpr parseIflet parseIfletIf
+  expr-back {i} {j} {ts} n r = go (isLparen (peek s i)) (isWord (s .text) word-if-let (peek s (i + 1))) (isWord (s .text) word-if (peek s (i + 1))) refl refl refl
+    where
+      go : (a b c : Bool) → isLparen (peek s i) ≡ a → isWord (s .text) word-if-let (peek s (i + 1)) ≡ b → isWord (s .text) word-if (peek s (i + 1)) ≡ c → either-shape .Means i ts j
+      go true true c p q w = absurd (n (iffy-let (opens s .at i .yes p) (words s word-if-let .at (i + 1) .yes q)))
+      go true false true p q w = absurd (n (iffy (opens s .at i .yes p) (words s word-if .at (i + 1) .yes w)))
+      go true false false p q w = holds (opens s .at i .yes p) (fails (words s word-if-let .at (i + 1) .no q) (fails (words s word-if .at (i + 1) .no w) r))
+      go false b c p q w = fails (opens s .at i .no p) r
+
+  either-back : {i j : ℕ} {ts : Trees} → Either s i ts j → either-shape .Means i ts j
+  either-back (an-iflet r) = iflet-back (r .derives) (r .shallow)
+  either-back (an-expression n r) = expr-back n r
+
+  exact-either : Exact (parseIfletOrExpr s) (Either s)
+  exact-either = exact-iff (either-shape .exact) (λ i ts j r. either-there r) (λ i ts j r. either-back r)
+
+  either-on : (i : ℕ) (ts : Trees) (j : ℕ) → Either s i ts j → (i < j) × (i < size s)
+  unfolding least
+  either-on i ts j (an-iflet r) = item-on refl (r .derives)
+  either-on i ts j (an-expression n r) = item-on refl (r .derives)
+
+  iflets-there : {k i j : ℕ} {ts : Trees} → Many (λ i. Iffy s i → ⊥) (λ _. Either s) k i ts j → Iflets s i ts j
+  unfolding deepest
+  iflets-there (done n) = record { derives = empty; shallow = omega arith; ends = n }
+  iflets-there (next {ts = ts} {us = us} n (an-iflet r) rs) =
+      let a = iflets-there rs in record { derives = cons (r .derives) (a .derives); shallow = omega (arith, deepest-⧺ ts us, r .shallow, a .shallow); ends = a .ends }
+  iflets-there (next n (an-expression m r) rs) = absurd (n m)
+
+  iflets-back : {i j : ℕ} {ts : Trees} (k : ℕ) → Gram s (list iflet) i j ts → deepest ts ≤ 64 → (Iffy s j → ⊥) → Many (λ i. Iffy s i → ⊥) (λ _. Either s) k i ts j
+  iflets-back k empty h n = done n
+  iflets-back k (cons {t = t} {ts = ts} p ps) h n =
+      let z = deepest-⧺ t ts in next (λ m. m (iffy-of p)) (an-iflet (record { derives = p; shallow = omega arith })) (iflets-back (k + count t) ps (omega arith) n)
+
+  exact-iflets : Exact (many (size s) (noIflet s) (parseIfletOrExpr s)) (Iflets s)
+  exact-iflets =
+      exact-iff (exact-many (size s) no-iflet-tests exact-either either-on)
+      (λ i ts j r. iflets-there r) (λ i ts j r. iflets-back 0 (r .derives) (r .shallow) (r .ends))
+
+  -- ---- rules
+
+  abbrev parts-shape : (place : ℕ) → Known (ruleParts s place)
+  unfolding ruleParts
+  parts-shape place = known (exact-name s) ⊳⊳ known (exact-priority s place) ⊳⊳ known (exact-pattern s 64) ⊳⊳ known exact-iflets ⊳⊳ known exact-either
+
+  -- 24's place changes nothing in what is accepted
+  parts-anywhere : Exact (λ i. ruleParts s (posAt s i) i) (parts-shape 0 .Means)
+  unfolding ruleParts
+  parts-anywhere = record { sound = λ i e. parts-shape (posAt s i) .exact .sound i e; complete = λ i r. parts-shape (posAt s i) .exact .complete i r; ground = λ i e z. parts-shape (posAt s i) .exact .ground i e z }
+
+  abbrev rule-shape : Known (parseRule s)
+  unfolding parseRule
+  rule-shape = flags s Rule (ruleFlags s) (known parts-anywhere)
+
+  -- what begins a rule's second part
+  after-pattern : {i k j : ℕ} {ts e : Trees} → Gram s (list iflet) i k ts → Gram s expression k j e → At s i → ⊥
+  unfolding least
+  after-pattern empty e = no-at (begins e refl)
+  after-pattern (cons p ps) e = no-at (begins p refl)
+
+  -- the five rows of a rule's children, one after another
+  in-a-row : (n q p ts e : Trees) → (((n ⧺ q) ⧺ p) ⧺ ts) ⧺ e ≡ n ⧺ q ⧺ p ⧺ ts ⧺ e
+  in-a-row n q p ts e = simp ⧺-assoc
+
+  deepest-in-a-row : (n q p ts e : Trees) → deepest (n ⧺ q ⧺ p ⧺ ts ⧺ e) ≡ max (deepest n) (max (deepest q) (max (deepest p) (max (deepest ts) (deepest e))))
+  deepest-in-a-row n q p ts e = simp deepest-⧺
+
+  rule-there : {i j : ℕ} {ts : Trees} → rule-shape .Means i ts j → Read s rule 64 i ts j
+  unfolding parseRule ruleParts deepest
+  rule-there (over (then {vs = e} (then {vs = ts} (then {vs = p} (then {us = n} {vs = q} (called x) (weighed y)) r) rs) (an-expression m u))) =
+      rw (rule-flags s x y, in-a-row n q p ts e)
+      (record {
+        derives = r-rule x y (r .derives) (rs .derives) (u .derives) m;
+        shallow = omega (arith, name-flat s x, priority-flat s y, r .shallow, rs .shallow, u .shallow, deepest-in-a-row n q p ts e);
+      })
+  rule-there (over (then (then (then (then (called x) (weighed y)) r) rs) (an-iflet u))) = absurd (rs .ends (iffy-of (u .derives)))
+
+  rule-back : {i j : ℕ} {ts : Trees} → Gram s rule i j ts → deepest ts ≤ 64 → rule-shape .Means i ts j
+  unfolding parseRule ruleParts deepest
+  rule-back (r-rule {n = n} {q = q} {p = t} {ts = ts} {e = u} x y p ps e h) m =
+      let a = deepest-in-a-row n q t ts u in
+      rw (← rule-flags s x y, ← in-a-row n q t ts u)
+      (over (then (then (then (then (called x) (weighed y)) (record { derives = p; shallow = omega arith; stops = λ _. after-pattern ps e })) (record { derives = ps; shallow = omega arith; ends = h }))
+      (an-expression h (record { derives = e; shallow = omega arith }))))
+
+  pub exact-rule : Exact (parseRule s) (Read s rule 64)
+  exact-rule = exact-iff (rule-shape .exact) (λ i ts j r. rule-there r) (λ i ts j r. rule-back (r .derives) (r .shallow))

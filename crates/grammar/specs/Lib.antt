@@ -1,0 +1,5 @@
+pub mod Lexical
+pub mod Grammar
+pub mod Depth
+pub mod Meaning
+pub mod Examples
