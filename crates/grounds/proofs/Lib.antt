@@ -1,0 +1,10 @@
+pub mod FirstLaws
+pub mod Exact
+pub mod Answers
+pub mod Accepted
+pub mod Places
+pub mod At
+pub mod TableLaws
+pub mod LookLaws
+pub mod JudgeLaws
+pub mod GroundLaws

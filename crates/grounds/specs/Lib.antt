@@ -1,0 +1,6 @@
+pub mod Grounds
+pub mod Refused
+pub mod Opening
+pub mod Leaves
+pub mod Table
+pub mod Judging
