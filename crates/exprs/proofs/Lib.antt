@@ -1,2 +1,3 @@
 pub mod ExprLaws
 pub mod IfletLaws
+pub mod Examples

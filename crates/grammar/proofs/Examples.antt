@@ -13,11 +13,12 @@ use Rattle.tokens.specs.Lent.{ascii, goodSymbol, goodValue, goodWords, goodToke
 use Rattle.steps.specs.Outcome.{before, andThen, _⊳_, nodeOf, parent, flagged, bare, leaf, nothing, refuseFrom, refuseAfter, ifNext, ifSecond, thenAt, itemsFrom, manyAt, many, unexpected, expectAt, ate, eat, identAt, nameBy, parseIdent, constRefusal, parseConst, refusedAs}
 use Rattle.patterns.specs.Pattern.{compound, patternIn, parsePattern}
 use Rattle.exprs.specs.Expr.{parseLetdef, letInside, parseExprInnerParens, exprIn, parseExpr, parseIflet, parseIfletIf, parseIfletOrExpr, noIflet}
+use Rattle.exprs.specs.Examples.{tok, sym, id}
 use Rattle.parser.specs.Types.{parseStructField, parseStructFields, parseTupleField, parseTupleFields, parseFields, parseTypeVariant, parseTypevalue, modifierFlags, modifiersEnd, parseModifiers, parseType}
 use Rattle.parser.specs.Defs.{declFlags, declModifiers, declNames, parseDecl, parseExtern, ruleName, isI64, rulePriority, ruleFlags, ruleParts, parseRule, restDef, parseDef, parseDefs}
 use Rattle.parser.specs.Reading.{done, stopped, fitted, judged, reading}
 use Rattle.grammar.specs.Meaning.{Derived}
-use Rattle.grammar.specs.Examples.{tok, sym, id, case, answers, readings, table, accepted, tree, refused}
+use Rattle.grammar.specs.Examples.{case, answers, readings, table, accepted, tree, refused}
 use Rattle.grammar.proofs.Theorem.{exact}
 
 pub as-written : readings table ≡ answers table

@@ -1,22 +1,12 @@
 -- The starred examples of document 01 for reading, as one table, and two inputs for the theorem of the grammar.
-use Prim.Native.Nat.{ℕ, _+_, _*_}
+use Prim.Native.Nat.{ℕ}
 use mathlib.Core.List.{List, [], _∷_, _++_}
 use Rattle.trees.specs.Tree.{Tree, Trees, node, ∅, _▸_, head}
-use Rattle.trees.specs.Ast.{Decl, Rule, Priority, Pattern·Var, Pattern·Term, Expr·Var, Ident}
-use Rattle.words.specs.Words.{be8}
+use Rattle.trees.specs.Ast.{Decl, Rule, Priority, Pattern·Var, Pattern·Term, Expr·Var}
 use Rattle.tokens.specs.Input.{Input, input}
+use Rattle.exprs.specs.Examples.{tok, sym, id}
 use Rattle.parser.specs.Reading.{Reading, done, stopped, reading}
 use Rattle.grammar.specs.Lexical.{one}
-
--- a token of kind k at position p with these words; the symbol of n bytes at p; the name there
-unfoldable pub tok : ℕ → ℕ → ℕ → ℕ → List ℕ
-tok k p a b = be8 (k * 1152921504606846976 + p) ++ be8 a ++ be8 b
-
-unfoldable pub sym : ℕ → ℕ → List ℕ
-sym p n = tok 3 p (p * 4294967296 + n) 0
-
-unfoldable pub id : ℕ → ℕ → Tree
-id p n = Ident p (p * 4294967296 + n)
 
 -- the tokens, the text and the end, and what reading answers with space for 16 records
 pub record Case : Type 0 where
