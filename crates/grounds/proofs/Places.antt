@@ -17,7 +17,7 @@ use Rattle.forms.specs.Forms.{placed, one, run, some, singles, leading, sortsOf
 use Rattle.forms.proofs.TestLaws.{both}
 use Rattle.forms.proofs.Exact.{enough, length-children, sound}
 use Rattle.forms.proofs.Inside.{name-is-ident}
-use Rattle.expansion.specs.Nodes.{isIdent, isExtractor, isVar, isBind, isTerm, isWildcard}
+use Rattle.expansion.specs.Nodes.{isIdent, isExtractor, isVar, isBind, isTerm, isWildcard, isMacroArg}
 use Rattle.expansion.specs.Flat.{LeafNext, IdentNext, Placed, All}
 use Rattle.grounds.specs.Leaves.{Leaves, ExtractorPlaced}
 
@@ -137,6 +137,10 @@ wildcard-row : (f : ℕ) → Head 36 f 0 0 0
 unfolding rowFor find rows _and_ singles some
 wildcard-row f = record { first-is = refl; any-is = refl; singles-are = refl }
 
+arg-row : (f : ℕ) → Head 38 f 0 0 0
+unfolding rowFor find rows _and_ singles some
+arg-row f = record { first-is = refl; any-is = refl; singles-are = refl }
+
 term-row : (f : ℕ) → Head 35 f name pattern 1
 unfolding rowFor find rows _and_ singles some
 term-row f = record { first-is = refl; any-is = refl; singles-are = refl }
@@ -190,6 +194,10 @@ module _ (t s b : ℕ) (ss : List ℕ) (r : Rec) (rs : List Rec) (g : good t s r
         term = λ e. let k = eqb-true (r .kind) 35 e in (omega (arith, least 35 name pattern 1 k (term-row (r .flags))), named-next 35 pattern 1 k (term-row (r .flags)) .1);
       }
 
+  arg-here : isMacroArg (r .kind) ≡ true → r .count ≡ 0
+  unfolding isMacroArg
+  arg-here e = sized 38 0 0 (eqb-true (r .kind) 38 e) (arg-row (r .flags))
+
   extractor-here : ExtractorPlaced r rs
   unfolding isExtractor fits
   extractor-here =
@@ -222,3 +230,16 @@ fits-extractors [] t b ss e = tt
 fits-extractors (r ∷ rs) t b ss e =
     let p = both e in
     (extractor-here t (next b ss) b (rest ss) r rs (p .0) (p .1), fits-extractors rs t b (children r ++ rest ss) (p .1))
+
+pub fits-args : (rs : List Rec) (t b : ℕ) (ss : List ℕ) → fits t b ss rs ≡ true → All (λ r rs. isMacroArg (r .kind) ≡ true → r .count ≡ 0) rs
+unfolding fits
+fits-args [] t b ss e = tt
+fits-args (r ∷ rs) t b ss e =
+    let p = both e in
+    (arg-here t (next b ss) b (rest ss) r rs (p .0) (p .1), fits-args rs t b (children r ++ rest ss) (p .1))
+
+-- a list of names has leaves alone
+pub fits-names : (rs : List Rec) (t : ℕ) → fits t name [] rs ≡ true → All (λ r rs. r .count ≡ 0) rs
+unfolding fits
+fits-names [] t e = tt
+fits-names (r ∷ rs) t e = let l = name-leaf t name [] r rs e in (l .1, fits-names rs t (l .2))

@@ -1,0 +1,40 @@
+use borrow.Author.Needs.{needs}
+use mathlib.Core.Path.{_≡_}
+use Prim.Native.Nat.{ℕ}
+use native.Mathlib.Omega.{arith}
+use Rattle.replay.proofs.AgreedLaws.{agreed}
+use Rattle.replay.proofs.read_cases.agrees.Statement.{statement}
+use Rattle.replay.proofs.read_cases.agrees.Tie as tie
+
+prefill-requires : tie.Need-prefill-requires
+prefill-requires c κs = search needs
+
+read-requires : tie.Need-read-requires
+read-requires c κs = search needs
+
+same-length : tie.Need-same-length
+same-length c = search needs
+
+returns : tie.Need-returns
+returns c = λ e. absurd (let z : _≡_ {A = ℕ} 0 1 = cc in omega arith)
+
+holds-requires : tie.Need-holds-requires
+holds-requires c κs = search needs
+
+same-length-2 : tie.Need-same-length-2
+same-length-2 c = search needs
+
+returns-2 : tie.Need-returns-2
+returns-2 c = λ e. agreed _ _ _ _ _ _ _ (search needs) (search needs) (c .before .before .before .before .before .read .ensures) (c .before .before .if1 .left) (c .holds .ensures e)
+
+pub agrees-spec : {M : Type 1} → statement M
+agrees-spec =
+    tie.close
+    (tie.spec
+    prefill-requires
+    read-requires
+    same-length
+    returns
+    holds-requires
+    same-length-2
+    returns-2)
