@@ -7,6 +7,7 @@ ghost use Rattle.tokens.specs.Input.{Input, input};
 ghost use Rattle.parser.specs.Reading.{reading};
 ghost use Rattle.reading.specs.Answered.{Answered};
 ghost use Rattle.grammar.specs.Meaning.{Worth};
+ghost use Rattle.templating.specs.Calls.{Ended, making, substituting};
 
 // The records of the definitions that the tokens are, or one refusal with its place. `answer` fixes the returned number and
 // every byte of the output; `meaning` says what they are worth: an acceptance that the grammar derives the whole list as these
@@ -18,4 +19,21 @@ pub extern "C" fn isle_read(tokens: &[u8], text: &[u8], end: u32, out: &mut [u8]
     ensures meaning { λ r. ⌜ Worth (input (now (tokens .entry)) (now (text .entry)) end) (slots (now (out .entry))) (length (now (out .entry))) r (now (out .exit)) ⌝ }
 {
     reading::read(tokens, text, end, out)
+}
+
+// The template of one pattern by its parameters, a list of Idents: document 01, 'Templates'. `answer` fixes the returned number and every
+// byte of the output.
+#[no_mangle]
+pub extern "C" fn isle_make_template(text: &[u8], pattern: &[u8], params: &[u8], out: &mut [u8]) -> u64
+    ensures answer { λ r. ⌜ Ended (making (now (text .entry)) (now (pattern .entry)) (now (params .entry)) (now (out .entry))) (length (now (out .entry))) (now (out .exit)) r ⌝ }
+{
+    templating::make(text, pattern, params, out)
+}
+
+// One template with its MacroArgs replaced by the patterns at their indices. `answer` fixes the returned number and every byte of the output.
+#[no_mangle]
+pub extern "C" fn isle_substitute(text: &[u8], template: &[u8], patterns: &[u8], out: &mut [u8]) -> u64
+    ensures answer { λ r. ⌜ Ended (substituting (now (text .entry)) (now (template .entry)) (now (patterns .entry)) (now (out .entry))) (length (now (out .entry))) (now (out .exit)) r ⌝ }
+{
+    templating::fill(text, template, patterns, out)
 }
