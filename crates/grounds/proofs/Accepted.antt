@@ -26,7 +26,7 @@ use Rattle.grounds.proofs.Exact.{Judged, judged}
 
 -- ---- a fact of each number of a list
 
-Each : (ℕ → Type 0) → List ℕ → Type 0
+unfoldable pub Each : (ℕ → Type 0) → List ℕ → Type 0
 Each Q [] = Unit {0}
 Each Q (n ∷ ns) = Q n × Each Q ns
 
@@ -137,9 +137,10 @@ module _ (text : List ℕ) (D : Extractors) where
       go true p ∅ n a e d on = on E d (rw (append-nil E) at (e .1))
       go true p (t ▸ ∅) n a e d on = on E d (rw (append-nil E) at (e .1))
       go true p (term ▸ t ▸ us) n a e d on =
-          let x : Named Extractor = named (nameOf text term) (record { params = butLast t us; pattern = last t us }) in
-          (one-fine E (x ∷ extractors text list) d term t us (e .0) n a,
-            on (E ++ (x ∷ [])) (d ∙ sym (append-assoc E (x ∷ []) (extractors text list))) (e .1))
+          let x : Named Extractor = named (nameOf text term) (record { params = butLast t us; pattern = last t us }) in (
+            one-fine E (x ∷ extractors text list) d term t us (e .0) n a,
+            on (E ++ (x ∷ [])) (d ∙ sym (append-assoc E (x ∷ []) (extractors text list))) (e .1),
+          )
 
 -- ---- the theorem
 

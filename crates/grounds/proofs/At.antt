@@ -59,6 +59,12 @@ pub skip-end : (b : List ℕ) (k y : ℕ) → y ≡ k + skip 1 (left b k) → y 
 unfolding endOf
 skip-end b k y e = e ∙ ap (k +_) (skip-span (left b k) 1 ∙ ap (λ (rs : List Rec). span rs 1) (sym (drop-recs b k)))
 
+-- a fact of each record is one of each from an index on
+pub all-drop : (Q : Rec → List Rec → Type 0) (i : ℕ) (m : List Rec) → All Q m → All Q (drop i m)
+all-drop Q zero m a = a
+all-drop Q (suc i) [] a = tt
+all-drop Q (suc i) (x ∷ m) a = all-drop Q i m (a .1)
+
 -- ---- the tree at an index
 
 module _ (l : List Rec) (k : ℕ) (r : Rec) (h : drop k l ≡ r ∷ drop (k + 1) l) where
@@ -69,10 +75,10 @@ module _ (l : List Rec) (k : ℕ) (r : Rec) (h : drop k l ≡ r ∷ drop (k + 1)
   pub trees-at : treesOf (drop k l) ≡ node (headOf r) kidsAt ▸ treesOf (drop (endOf l k) l)
   unfolding treesOf childAt
   trees-at = rw h (ap (node (headOf r) kidsAt ▸_) (
-    sym (treesOf-after (drop (k + 1) l) (r .count))
-    ∙ ap treesOf (drop-drop (span (drop (k + 1) l) (r .count)) (k + 1) l)
-    ∙ ap (λ (i : ℕ). treesOf (drop i l)) (child-last l k r h)
-  ))
+      sym (treesOf-after (drop (k + 1) l) (r .count))
+      ∙ ap treesOf (drop-drop (span (drop (k + 1) l) (r .count)) (k + 1) l)
+      ∙ ap (λ (i : ℕ). treesOf (drop i l)) (child-last l k r h)
+      ))
 
   pub end-more : k < endOf l k
   unfolding endOf span
@@ -88,14 +94,9 @@ module _ (l : List Rec) (k : ℕ) (r : Rec) (h : drop k l ≡ r ∷ drop (k + 1)
   pub tree-size : All Placed l → k + length (records (node (headOf r) kidsAt)) ≡ endOf l k
   unfolding endOf span
   tree-size a =
-      let p : All Placed (drop (k + 1) l) = all-drop (k + 1) l a in
+      let p : All Placed (drop (k + 1) l) = all-drop Placed (k + 1) l a in
       let n : length (recordsAll kidsAt) ≡ span (drop (k + 1) l) (r .count) = ap length (list-firsts (drop (k + 1) l) (r .count) p) ∙ length-take-le (span (drop (k + 1) l) (r .count)) (drop (k + 1) l) (span-le (drop (k + 1) l) (r .count)) in
       rw h (omega (arith, size-node (headOf r) kidsAt, ap (span (drop (k + 1) l)) (add-zero (r .count))))
-    where
-      all-drop : (i : ℕ) (m : List Rec) → All Placed m → All Placed (drop i m)
-      all-drop zero m a = a
-      all-drop (suc i) [] a = tt
-      all-drop (suc i) (x ∷ m) a = all-drop i m (a .1)
 
 -- ---- an Extractor has two children at least, and its name is the next record
 

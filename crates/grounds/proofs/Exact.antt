@@ -23,6 +23,7 @@ use Rattle.expansion.specs.Flat.{storeRecords}
 use Rattle.grounds.specs.Grounds.{Refusal, refusal, _orElse_, atPlace, firstFrom, lent, macroArgGround, depthGround, manyGround, extractorPlaces, mostExtractors, flaws, grounds}
 use Rattle.grounds.specs.Refused.{IsMacroArg, IsDeep, IsTooMany, IsFlawed, Nowhere, NotBefore, Refused, macro-arg, deep, many, flawed}
 use Rattle.grounds.specs.Opening.{Outcome, accept, refuse, space, after, opening}
+use Rattle.grounds.proofs.Plain.{flawed-plainly}
 use Rattle.grounds.proofs.FirstLaws.{FirstPlace, first-place, place-there, place-nowhere, FirstFlaw, first-flaw, flaw-there, flaw-nowhere}
 
 module _ (text : List ℕ) (ds : Trees) (p : Tree) where
@@ -93,7 +94,7 @@ module _ (text : List ℕ) (ds : Trees) (p : Tree) where
       go a b c d (Stage.there k g n) y z w = bad 4 k (macro-arg g n)
       go a b c d (Stage.nowhere x) (Stage.there k g n) z w = bad 8 k (deep x g n)
       go a b c d (Stage.nowhere x) (Stage.nowhere y) (Stage.there k g n) w = bad 33 k (many x y g)
-      go a b c d (Stage.nowhere x) (Stage.nowhere y) (Stage.nowhere z) (FlawStage.there m k g n) = bad m k (flawed x y z g n)
+      go a b c d (Stage.nowhere x) (Stage.nowhere y) (Stage.nowhere z) (FlawStage.there m k g n) = bad m k (flawed x y z (flawed-plainly text ds p m k .0 g) (λ j i l f. n j i l (flawed-plainly text ds p i j .1 f)))
       go a b c d (Stage.nowhere x) (Stage.nowhere y) (Stage.nowhere z) (FlawStage.nowhere w) = fine x y z w
 
   -- ---- there is only one first ground
@@ -127,13 +128,13 @@ module _ (text : List ℕ) (ds : Trees) (p : Tree) where
       go : Dec (j < k) → Dec (k < j) → refusal n j ≡ refusal m k
       go (yes a) c = absurd (d j n a g)
       go (no a) (yes c) = absurd (b k m c h)
-      go (no a) (no c) = let e : j ≡ k = omega arith in let q : n ≡ m = sym (g .0) ∙ ap (λ (i : ℕ). getD (flaws text ds p) i 0) e ∙ h .0 in rw (e, q)
+      go (no a) (no c) = let e : j ≡ k = omega arith in let q : n ≡ m = sym (flawed-plainly text ds p n j .1 g .0) ∙ ap (λ (i : ℕ). getD (flaws text ds p) i 0) e ∙ flawed-plainly text ds p m k .1 h .0 in rw (e, q)
 
   nothing : (n k : ℕ) → Nowhere text ds p (IsMacroArg text ds p) → Nowhere text ds p (IsDeep text ds p) → Nowhere text ds p (IsTooMany text ds p) → ((k n : ℕ) → IsFlawed text ds p n k → ⊥) → Refused text ds p n k → ⊥
   nothing n k x y z w (macro-arg h d) = x k h
   nothing n k x y z w (deep a h d) = y k h
   nothing n k x y z w (many a b h) = z k h
-  nothing n k x y z w (flawed a b c h d) = w k n h
+  nothing n k x y z w (flawed a b c h d) = w k n (flawed-plainly text ds p n k .1 h)
 
   same-refusal : (n m j k : ℕ) → _≡_ {A = Option Refusal} (some (refusal n j)) (some (refusal m k)) → (n ≡ m) × (j ≡ k)
   same-refusal n m j k e = (ap (λ (o : Option Refusal). numberIn o) e, ap (λ (o : Option Refusal). placeIn o) e)

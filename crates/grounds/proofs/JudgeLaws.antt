@@ -21,6 +21,7 @@ use Rattle.forms.specs.Lists.{left, skip}
 use Rattle.expansion.specs.Nodes.{rest, treeAt, isTerm, isExtractor}
 use Rattle.expansion.specs.Expansion.{Named, named, find, Extractor, Extractors, extractor, extractors, called}
 use Rattle.expansion.specs.Flat.{span, after, endOf, childAt, Placed, All, calledAt}
+use Rattle.expansion.proofs.OrderLaws.{find-later}
 use Rattle.expansion.proofs.SpanLaws.{span-zero, count-firsts, count-others, firsts-add, treesOf-after}
 use Rattle.expansion.proofs.FlatOpening.{called-flat}
 use Rattle.expansion.proofs.IndexLaws.{child-last, all-at}
@@ -32,7 +33,7 @@ use Rattle.grounds.specs.Table.{nameIn, arityIn, placeIn, looked, RowOf,
 use Rattle.grounds.specs.Leaves.{ExtractorPlaced}
 use Rattle.grounds.specs.Judging.{childrenAt, NamedRows, Known, knownAll, byNumber, CallJudged, CallsJudged, ExtractorJudged, ListJudged}
 use Rattle.grounds.proofs.FirstLaws.{flaw-here, flaw-next, flaw-zeros}
-use Rattle.grounds.proofs.LookLaws.{found-row, missing-row, first-row, rows-first, rows-others, find-others, least, missing-all}
+use Rattle.grounds.proofs.LookLaws.{found-row, missing-row, first-row, rows-first, rows-others, least, missing-all}
 use Rattle.grounds.proofs.At.{here, past, length-recs, skip-end, kidsAt, trees-at, end-more, end-upto, tree-size, two-children, second-there}
 
 -- ---- by a number
@@ -91,14 +92,14 @@ module _ (text t : List ℕ) (w : ℕ) where
             let above = least (arities t) text t w (length (k .others)) (0 + length (k .first)) in
             let l : earlier ≤ looked text t w (0 + length (k .first)) (length (k .others)) = omega (arith, above, k .sized) in
             let d : looked text t w (0 + length (k .first)) (length (k .others)) ≡ n → ⊥ = λ q. omega (arith, y .1) in
-            rw (x, e, find-others (arities t) text t w (k .first) (k .others) e, f, le-ltb (looked text t w (0 + length (k .first)) (length (k .others))) earlier l, ne-eqb (looked text t w (0 + length (k .first)) (length (k .others))) n d)
+            rw (x, e, find-later (spelled text w) (k .first) (k .others) e, f, le-ltb (looked text t w (0 + length (k .first)) (length (k .others))) earlier l, ne-eqb (looked text t w (0 + length (k .first)) (length (k .others))) n d)
         go none e none f =
             let r = rows-others (arities t) text t w 0 (k .first) (k .others) (k .rows) in
             let x : looked text t w 0 n ≡ n =
             ap (looked text t w 0) total ∙ missing-row (arities t) text t w 0 (k .first) (length (k .others)) (rows-first (arities t) text t w 0 (k .first) (k .others) (k .rows)) e
             ∙ missing-all (arities t) text t w (0 + length (k .first)) (k .others) r f ∙ omega (arith, k .all) in
             let l : earlier ≤ n = omega (arith, k .sized, k .all) in
-            rw (x, e, find-others (arities t) text t w (k .first) (k .others) e, f, le-ltb n earlier l, eq-eqb n n refl)
+            rw (x, e, find-later (spelled text w) (k .first) (k .others) e, f, le-ltb n earlier l, eq-eqb n n refl)
 
     -- the name of an extractor among the earlier ones
     pub name-is : looked text t w 0 earlier < earlier → byName (find (spelled text w) (k .first)) ≡ 30
@@ -107,10 +108,10 @@ module _ (text t : List ℕ) (w : ℕ) where
         go : (o : Option Extractor) → find (spelled text w) (k .first) ≡ o → byName (find (spelled text w) (k .first)) ≡ 30
         go (some v) e = rw e
         go none e = absurd (
-          let x = missing-all (arities t) text t w 0 (k .first) (rows-first (arities t) text t w 0 (k .first) (k .others) (k .rows)) e in
-          let y : looked text t w 0 earlier ≡ looked text t w 0 (length (k .first)) = ap (looked text t w 0) (sym (k .sized)) in
-          omega (arith, k .sized)
-        )
+            let x = missing-all (arities t) text t w 0 (k .first) (rows-first (arities t) text t w 0 (k .first) (k .others) (k .rows)) e in
+            let y : looked text t w 0 earlier ≡ looked text t w 0 (length (k .first)) = ap (looked text t w 0) (sym (k .sized)) in
+            omega (arith, k .sized)
+            )
 
     pub name-not : earlier ≤ looked text t w 0 earlier → byName (find (spelled text w) (k .first)) ≡ 0
     name-not h = go (find (spelled text w) (k .first)) refl
@@ -118,14 +119,14 @@ module _ (text t : List ℕ) (w : ℕ) where
         go : (o : Option Extractor) → find (spelled text w) (k .first) ≡ o → byName (find (spelled text w) (k .first)) ≡ 0
         go none e = rw e
         go (some v) e = absurd (
-          let x = found-row (arities t) text t w 0 (k .first) (rows-first (arities t) text t w 0 (k .first) (k .others) (k .rows)) v e in
-          let y : looked text t w 0 earlier ≡ looked text t w 0 (length (k .first)) = ap (looked text t w 0) (sym (k .sized)) in
-          omega (arith, k .sized, x .1)
-        )
+            let x = found-row (arities t) text t w 0 (k .first) (rows-first (arities t) text t w 0 (k .first) (k .others) (k .rows)) v e in
+            let y : looked text t w 0 earlier ≡ looked text t w 0 (length (k .first)) = ap (looked text t w 0) (sym (k .sized)) in
+            omega (arith, k .sized, x .1)
+            )
 
 -- ---- the record k as a call
 
-count-rest : (ts : Trees) → count (rest ts) ≡ count ts - 1
+pub count-rest : (ts : Trees) → count (rest ts) ≡ count ts - 1
 unfolding count
 count-rest ∅ = refl
 count-rest (t ▸ ts) = omega arith
@@ -312,29 +313,35 @@ kids-there defs i c a h e = rw e (all-at (recs defs) Placed a i (recAt defs i) (
 
 -- ---- the table's rows are named
 
-enough-after : (m : ℕ) (s : Rec) (rs : List Rec) → m + 2 ≤ count (treesOf (s ∷ rs)) → m ≤ count (treesOf (after rs (s .count)))
+enough-after : (m : ℕ) (s : Rec) (rs : List Rec) → m + 2 ≤ count (treesOf (s ∷ rs)) → m + 1 ≤ count (treesOf (after rs (s .count)))
 unfolding treesOf count
 enough-after m s rs l = omega (arith, ap count (treesOf-after rs (s .count)))
 
-row-named : (text defs t : List ℕ) (x : ℕ) (e : Named Extractor) → All Placed (recs defs) → RowOf text defs t x e → (e .name ≡ spelled text (nameIn t x)) × (count (e .value .params) ≡ arityIn t x)
-row-named text defs t x e a r =
+-- what the row x says of its extractor
+pub row-is : (text defs t : List ℕ) (x : ℕ) (e : Named Extractor) → All Placed (recs defs) → RowOf text defs t x e
+    → (e ≡ named (spelled text (nameIn t x)) (record {
+      params = firsts (arityIn t x) (treesOf (after (drop (placeIn t x + 1 + 1) (recs defs)) (recAt defs (placeIn t x + 1) .count)));
+      pattern = treeAt (treesOf (after (drop (placeIn t x + 1 + 1) (recs defs)) (recAt defs (placeIn t x + 1) .count))) (arityIn t x) (node (headOf (recAt defs (placeIn t x + 1))) ∅);
+    })) × (arityIn t x + 1 ≤ count (treesOf (after (drop (placeIn t x + 1 + 1) (recs defs)) (recAt defs (placeIn t x + 1) .count))))
+row-is text defs t x e a r =
     let i : ℕ = placeIn t x in
+    let second : Rec = recAt defs (placeIn t x + 1) in
+    let rs : List Rec = drop (placeIn t x + 1 + 1) (recs defs) in
     let h : i < slots defs = omega (arith, r .there) in
     let w : recAt defs i .count ≤ count (treesOf (drop (i + 1) (recs defs))) = all-at (recs defs) Placed a i (recAt defs i) (drop (i + 1) (recs defs)) (here defs i h) .whole in
-    go (recAt defs (i + 1)) (drop (i + 1 + 1) (recs defs)) (here defs (i + 1) (r .there)) w
-  where
-    go : (s : Rec) (rs : List Rec) → drop (placeIn t x + 1) (recs defs) ≡ recAt defs (placeIn t x + 1) ∷ rs → recAt defs (placeIn t x) .count ≤ count (treesOf (drop (placeIn t x + 1) (recs defs)))
-        → (e .name ≡ spelled text (nameIn t x)) × (count (e .value .params) ≡ arityIn t x)
-    go s rs d w =
-        let second : Rec = recAt defs (placeIn t x + 1) in
-        let l : arityIn t x + 2 ≤ count (treesOf (second ∷ rs)) = rw (← d, r .size) w in
-        let q : e ∷ [] ≡ named (spelled text (second .word1)) (record { params = firsts (arityIn t x) (treesOf (after rs (second .count))); pattern = treeAt (treesOf (after rs (second .count))) (arityIn t x) (node (headOf second) ∅) }) ∷ [] =
-        sym (r .is) ∙ ap (λ (m : ℕ). extractor text (firsts m (treesOf (drop (placeIn t x + 1) (recs defs))))) (sym (r .size))
-        ∙ ap (λ (ss : List Rec). extractor text (firsts (arityIn t x + 2) (treesOf ss))) d
-        ∙ extractor-at text (arityIn t x) second rs (node (headOf second) ∅) l in
-        let p : e ≡ named (spelled text (second .word1)) (record { params = firsts (arityIn t x) (treesOf (after rs (second .count))); pattern = treeAt (treesOf (after rs (second .count))) (arityIn t x) (node (headOf second) ∅) }) = cc in
-        (ap (λ (z : Named Extractor). z .name) p ∙ ap (spelled text) (sym (r .word)),
-          ap (λ (z : Named Extractor). count (z .value .params)) p ∙ count-firsts (arityIn t x) (treesOf (after rs (second .count))) (enough-after (arityIn t x) second rs l))
+    let d : drop (placeIn t x + 1) (recs defs) ≡ second ∷ rs = here defs (i + 1) (r .there) in
+    let l : arityIn t x + 2 ≤ count (treesOf (second ∷ rs)) = rw (← d, r .size) w in
+    let q : e ∷ [] ≡ named (spelled text (second .word1)) (record { params = firsts (arityIn t x) (treesOf (after rs (second .count))); pattern = treeAt (treesOf (after rs (second .count))) (arityIn t x) (node (headOf second) ∅) }) ∷ [] =
+    sym (r .is) ∙ ap (λ (m : ℕ). extractor text (firsts m (treesOf (drop (placeIn t x + 1) (recs defs))))) (sym (r .size))
+    ∙ ap (λ (ss : List Rec). extractor text (firsts (arityIn t x + 2) (treesOf ss))) d
+    ∙ extractor-at text (arityIn t x) second rs (node (headOf second) ∅) l in
+    let p : e ≡ named (spelled text (second .word1)) (record { params = firsts (arityIn t x) (treesOf (after rs (second .count))); pattern = treeAt (treesOf (after rs (second .count))) (arityIn t x) (node (headOf second) ∅) }) = cc in
+    (p ∙ rw (r .word), enough-after (arityIn t x) second rs l)
+
+row-named : (text defs t : List ℕ) (x : ℕ) (e : Named Extractor) → All Placed (recs defs) → RowOf text defs t x e → (e .name ≡ spelled text (nameIn t x)) × (count (e .value .params) ≡ arityIn t x)
+row-named text defs t x e a r =
+    let p = row-is text defs t x e a r in
+    (ap (λ (z : Named Extractor). z .name) (p .0), ap (λ (z : Named Extractor). count (z .value .params)) (p .0) ∙ count-firsts (arityIn t x) _ (omega (arith, p .1)))
 
 pub rows-named : (text defs t : List ℕ) (x : ℕ) (E : Extractors) → All Placed (recs defs) → Rows text defs t x E → NamedRows text t x E
 rows-named text defs t x [] a r = tt
@@ -424,8 +431,8 @@ module _ (text defs t : List ℕ) (n earlier i end : ℕ) (g : Listing text defs
               g .leads ns
               ∙ ap (λ (fs : List ℕ). firstFrom i (fs ++ ns)) (list-next false (not-kind k))
               ∙ rw (not-kind k, append-nil, append-assoc)
-                (flaw-zeros i (length (records (node (headOf r) (kidsAt (recs defs) i r spot)))) (listFlaws text whole-list (g .first) (treesOf (drop (endOf (recs defs) i) (recs defs))) ++ ns)
-                ∙ ap (λ (m : ℕ). firstFrom m (listFlaws text whole-list (g .first) (treesOf (drop (endOf (recs defs) i) (recs defs))) ++ ns)) (tree-size (recs defs) i r spot a));
+              (flaw-zeros i (length (records (node (headOf r) (kidsAt (recs defs) i r spot)))) (listFlaws text whole-list (g .first) (treesOf (drop (endOf (recs defs) i) (recs defs))) ++ ns)
+              ∙ ap (λ (m : ℕ). firstFrom m (listFlaws text whole-list (g .first) (treesOf (drop (endOf (recs defs) i) (recs defs))) ++ ns)) (tree-size (recs defs) i r spot a));
         })
 
     module _ (k : r .kind ≡ 19) where
@@ -441,8 +448,8 @@ module _ (text defs t : List ℕ) (n earlier i end : ℕ) (g : Listing text defs
       list-this ns =
           ap (λ (fs : List ℕ). firstFrom i (fs ++ ns)) (list-next true (has-kind k))
           ∙ rw (has-kind k, append-assoc)
-            (ap (λ (D : Extractors). firstFrom i ((nameFlaw text D (g .first) (kidsAt (recs defs) i r spot) ∷ callFlawsAll text D (g .first) (kidsAt (recs defs) i r spot)) ++ (others-after ++ ns))) (g .whole)
-            ∙ ap (λ (s : Rec). firstFrom i ((nameFlaw text (knownAll known) (g .first) (firsts (s .count) (treesOf (drop (i + 1) (recs defs)))) ∷ callFlawsAll text (knownAll known) (g .first) (firsts (s .count) (treesOf (drop (i + 1) (recs defs))))) ++ (others-after ++ ns))) is)
+          (ap (λ (D : Extractors). firstFrom i ((nameFlaw text D (g .first) (kidsAt (recs defs) i r spot) ∷ callFlawsAll text D (g .first) (kidsAt (recs defs) i r spot)) ++ (others-after ++ ns))) (g .whole)
+          ∙ ap (λ (s : Rec). firstFrom i ((nameFlaw text (knownAll known) (g .first) (firsts (s .count) (treesOf (drop (i + 1) (recs defs)))) ∷ callFlawsAll text (knownAll known) (g .first) (firsts (s .count) (treesOf (drop (i + 1) (recs defs))))) ++ (others-after ++ ns))) is)
 
       pub listing-flawed : (j : Judged) (f p : ℕ) → j ≡ Flawed f p → ExtractorJudged text t n earlier defs i j → ListJudged text defs j
       unfolding ExtractorJudged ListJudged table-known

@@ -1,10 +1,13 @@
 pub mod FirstLaws
+pub mod Plain
 pub mod Exact
 pub mod Answers
 pub mod Accepted
+pub mod Exactly
 pub mod Places
 pub mod At
 pub mod TableLaws
 pub mod LookLaws
 pub mod JudgeLaws
 pub mod GroundLaws
+pub mod Examples

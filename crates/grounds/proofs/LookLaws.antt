@@ -61,16 +61,6 @@ module _ {A : Type 0} (Q : ℕ → A → Type 0) (text t : List ℕ) (w : ℕ) w
   rows-others x [] F r = rw (add-zero x) r
   rows-others x (e ∷ E) F r = let m : x + suc (length E) ≡ suc x + length E = omega arith in rw m (rows-others (suc x) E F (r .2))
 
-  pub find-others : (E F : List (Named A)) → find (spelled text w) E ≡ none → find (spelled text w) (E ++ F) ≡ find (spelled text w) F
-  unfolding find
-  find-others [] F e = refl
-  find-others (f ∷ E) F e = go (sameBytes (spelled text w) (f .name)) refl e (find-others E F)
-    where
-      go : (b : Bool) → sameBytes (spelled text w) (f .name) ≡ b → pick b (some (f .value)) (find (spelled text w) E) ≡ none → (find (spelled text w) E ≡ none → find (spelled text w) (E ++ F) ≡ find (spelled text w) F)
-          → pick (sameBytes (spelled text w) (f .name)) (some (f .value)) (find (spelled text w) (E ++ F)) ≡ find (spelled text w) F
-      go true p e i = absurd (let z : _≡_ {A = ℕ} 0 1 = cc in omega arith)
-      go false p e i = rw p (i e)
-
   pub least : (m x : ℕ) → x ≤ looked text t w x m
   unfolding looked
   least zero x = omega arith

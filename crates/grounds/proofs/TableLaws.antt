@@ -93,12 +93,13 @@ module _ (defs t : List ℕ) (n i end : ℕ) (g : Making defs t n i) (all : end 
   making-end h =
       let z : drop i (recs defs) ≡ [] = past defs i (omega arith) in
       let p = g .places in
-      let few : length (extractorPlaces 0 (treesOf (recs defs))) ≤ 256 = rw (p .2, z, append-nil) (omega (arith, p .1, g .few)) in
-      (λ text.
-        let r = g .rows text in
-        let e : extractors text (treesOf (recs defs)) ≡ r .0 = r .2 ∙ rw (z, append-nil) in
-        record { rows = rw e (r .3); size = rw e (r .1); few = g .few; long = g .long },
-      rw (le-ltb 256 (length (extractorPlaces 0 (treesOf (recs defs)))) few))
+      let few : length (extractorPlaces 0 (treesOf (recs defs))) ≤ 256 = rw (p .2, z, append-nil) (omega (arith, p .1, g .few)) in (
+        λ text.
+            let r = g .rows text in
+            let e : extractors text (treesOf (recs defs)) ≡ r .0 = r .2 ∙ rw (z, append-nil) in
+            record { rows = rw e (r .3); size = rw e (r .1); few = g .few; long = g .long },
+        rw (le-ltb 256 (length (extractorPlaces 0 (treesOf (recs defs)))) few),
+      )
 
   module _ (r : Rec) (is : r ≡ recAt defs i) (more : i < end) (a : All Placed (recs defs)) where
     at : drop i (recs defs) ≡ r ∷ drop (i + 1) (recs defs)
@@ -166,14 +167,15 @@ module _ (defs t : List ℕ) (n i end : ℕ) (g : Making defs t n i) (all : end 
       new-extractor text =
           let c : r .count ≡ r .count - 2 + 2 = omega (arith, making-two) in
           let w : r .count ≤ count (treesOf (drop (i + 1) (recs defs))) = all-at (recs defs) Placed a i r (drop (i + 1) (recs defs)) at .whole in
-          let l : r .count - 2 + 2 ≤ count (treesOf (second ∷ drop (i + 1 + 1) (recs defs))) = rw (← (here defs (i + 1) making-second), ← c) w in
-          (named (spelled text (second .word1)) (record {
-            params = firsts (r .count - 2) (treesOf (after (drop (i + 1 + 1) (recs defs)) (second .count)));
-            pattern = treeAt (treesOf (after (drop (i + 1 + 1) (recs defs)) (second .count))) (r .count - 2) (node (headOf r) ∅);
-          }),
-          ap (λ (m : ℕ). extractor text (firsts m (treesOf (drop (i + 1) (recs defs))))) c
-          ∙ ap (λ (rs : List Rec). extractor text (firsts (r .count - 2 + 2) (treesOf rs))) (here defs (i + 1) making-second)
-          ∙ extractor-at text (r .count - 2) second (drop (i + 1 + 1) (recs defs)) (node (headOf r) ∅) l)
+          let l : r .count - 2 + 2 ≤ count (treesOf (second ∷ drop (i + 1 + 1) (recs defs))) = rw (← (here defs (i + 1) making-second), ← c) w in (
+            named (spelled text (second .word1)) (record {
+              params = firsts (r .count - 2) (treesOf (after (drop (i + 1 + 1) (recs defs)) (second .count)));
+              pattern = treeAt (treesOf (after (drop (i + 1 + 1) (recs defs)) (second .count))) (r .count - 2) (node (headOf r) ∅);
+            }),
+            ap (λ (m : ℕ). extractor text (firsts m (treesOf (drop (i + 1) (recs defs))))) c
+                ∙ ap (λ (rs : List Rec). extractor text (firsts (r .count - 2 + 2) (treesOf rs))) (here defs (i + 1) making-second)
+                ∙ extractor-at text (r .count - 2) second (drop (i + 1 + 1) (recs defs)) (node (headOf r) ∅) l,
+          )
 
       module _ (t′ : List ℕ) (was : t′ ≡ set (set (set t (3 * n) (second .word1)) (3 * n + 1) (recAt defs i .count - 2)) (3 * n + 2) i) (space : 3 * n + 3 ≤ length t) where
         added : t′ ≡ set (set (set t (3 * n) (second .word1)) (3 * n + 1) (r .count - 2)) (3 * n + 2) i
@@ -222,8 +224,11 @@ module _ (defs t : List ℕ) (n i end : ℕ) (g : Making defs t n i) (all : end 
                   let w = new-extractor text in
                   let y : extractors text (treesOf (recs defs)) ≡ s .0 ++ ((w .0 ∷ []) ++ extractors text (treesOf (drop (endOf (recs defs) i) (recs defs)))) =
                   s .2 ∙ ap (s .0 ++_) (extractors-next true (this k) text ∙ ap (_++ extractors text (treesOf (drop (endOf (recs defs) i) (recs defs)))) (w .1)) in
-                  let len : 0 + length (s .0) ≡ n = omega (arith, s .1) in
-                  (s .0 ++ (w .0 ∷ []), length-append (s .0) (w .0 ∷ []) ∙ omega (arith, s .1), y ∙ sym (append-assoc (s .0) (w .0 ∷ []) _),
+                  let len : 0 + length (s .0) ≡ n = omega (arith, s .1) in (
+                    s .0 ++ (w .0 ∷ []),
+                    length-append (s .0) (w .0 ∷ []) ∙ omega (arith, s .1),
+                    y ∙ sym (append-assoc (s .0) (w .0 ∷ []) _),
                     rows-add text defs t t′ 0 (s .0) (w .0) (λ v h. (other-cell (3 * v) (λ z. omega arith) (λ z. omega arith) (λ z. omega arith), other-cell (3 * v + 1) (λ z. omega arith) (λ z. omega arith) (λ z. omega arith), other-cell (3 * v + 2) (λ z. omega arith) (λ z. omega arith) (λ z. omega arith)))
-                    (rw len (new-row text (w .0) (w .1))) (s .3));
+                        (rw len (new-row text (w .0) (w .1))) (s .3),
+                  );
             })

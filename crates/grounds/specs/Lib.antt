@@ -1,4 +1,5 @@
 pub mod Grounds
+pub mod Facts
 pub mod Refused
 pub mod Opening
 pub mod Leaves

@@ -7,6 +7,7 @@ use Rattle.trees.specs.Tree.{Tree, Trees, recordsAll}
 use Rattle.forms.specs.Lists.{kindsAll, MacroArg}
 use Rattle.forms.specs.Depth.{depthsAll, tooDeep}
 use Rattle.grounds.specs.Grounds.{lent, extractorPlaces, mostExtractors, flaws}
+use Rattle.grounds.specs.Facts.{Flaw}
 
 module _ (text : List ℕ) (ds : Trees) (p : Tree) where
   -- 4: the record k is a MacroArg
@@ -21,7 +22,7 @@ module _ (text : List ℕ) (ds : Trees) (p : Tree) where
   abbrev pub IsTooMany : ℕ → Type 0
   IsTooMany k = (mostExtractors < length (extractorPlaces 0 ds)) × (k ≡ getD (extractorPlaces 0 ds) mostExtractors 0)
 
-  -- 30, 31, 32: the record k has a flaw, and this is its number
+  -- 30, 31, 32: the record k has a flaw, and this is its number (a `Flaw`, exactly)
   abbrev pub IsFlawed : ℕ → ℕ → Type 0
   IsFlawed number k = (getD (flaws text ds p) k 0 ≡ number) × (0 < number)
 
@@ -36,4 +37,4 @@ module _ (text : List ℕ) (ds : Trees) (p : Tree) where
     macro-arg : {k : ℕ} → IsMacroArg k → NotBefore IsMacroArg k → Refused 4 k
     deep : {k : ℕ} → Nowhere IsMacroArg → IsDeep k → NotBefore IsDeep k → Refused 8 k
     many : {k : ℕ} → Nowhere IsMacroArg → Nowhere IsDeep → IsTooMany k → Refused 33 k
-    flawed : {n k : ℕ} → Nowhere IsMacroArg → Nowhere IsDeep → Nowhere IsTooMany → IsFlawed n k → ((j m : ℕ) → j < k → IsFlawed m j → ⊥) → Refused n k
+    flawed : {n k : ℕ} → Nowhere IsMacroArg → Nowhere IsDeep → Nowhere IsTooMany → Flaw text ds p n k → ((j m : ℕ) → j < k → Flaw text ds p m j → ⊥) → Refused n k

@@ -61,7 +61,15 @@ fn judge_call(text: &[u8], table: &[u64], n: usize, earlier: usize, src: &[u8], 
 }
 
 // The calls in the trees from the index `at` on.
-pub fn judge_calls(text: &[u8], table: &[u64], n: usize, earlier: usize, src: &[u8], at: usize, trees: usize) -> Judged
+pub fn judge_calls(
+    text: &[u8],
+    table: &[u64],
+    n: usize,
+    earlier: usize,
+    src: &[u8],
+    at: usize,
+    trees: usize,
+) -> Judged
     requires { ⌜ (3 * n ≤ length (now table)) × (earlier ≤ n) × (slots (now src) ≤ 65536) × All Placed (recs (now src)) × (trees ≤ count (treesOf (drop at (recs (now src))))) ⌝ }
     ensures { λ r. ⌜ CallsJudged (now (text .entry)) (now (table .entry)) n earlier (now (src .entry)) at trees r ⌝ }
 {
@@ -80,7 +88,15 @@ pub fn judge_calls(text: &[u8], table: &[u64], n: usize, earlier: usize, src: &[
 }
 
 // The Extractor at the index i, with c children: its name, and the calls in its template.
-fn judge_extractor(text: &[u8], table: &[u64], n: usize, earlier: usize, defs: &[u8], i: usize, c: usize) -> Judged
+fn judge_extractor(
+    text: &[u8],
+    table: &[u64],
+    n: usize,
+    earlier: usize,
+    defs: &[u8],
+    i: usize,
+    c: usize,
+) -> Judged
     requires { ⌜ (3 * n ≤ length (now table)) × (earlier ≤ n) × (slots (now defs) ≤ 65536) × All Placed (recs (now defs)) × (i + 1 < slots (now defs)) × (c ≡ recAt (now defs) i .count) × (2 ≤ c) ⌝ }
     ensures { λ r. ⌜ ExtractorJudged (now (text .entry)) (now (table .entry)) n earlier (now (defs .entry)) i r ⌝ }
 {

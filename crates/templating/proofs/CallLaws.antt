@@ -62,22 +62,35 @@ module _ (text first second : ℕ) where
 
 -- ---- the checks
 
+module _ {A : Type 0} (stop : ℕ → A) (n k : ℕ) (c : A) (e : n ≡ k) where
+  pub lent-size : (a b : Bool) → (n ≡ 0 → ⊥) → lent stop k a b c ≡ stop n
+  unfolding lent
+  lent-size a b h = rw (← e, ne-eqb n 0 h)
+
+  pub lent-first : (a b x : Bool) → n ≡ 0 → x ≡ a → not x ≡ true → lent stop k a b c ≡ stop 3
+  unfolding lent
+  lent-first a b x h f g = rw (← e, eq-eqb n 0 h, ← f, not-true x g)
+
+  pub lent-second : (a b x z : Bool) → n ≡ 0 → x ≡ a → not x ≡ false → z ≡ b → not z ≡ true → lent stop k a b c ≡ stop 3
+  unfolding lent
+  lent-second a b x z h f g i j = rw (← e, eq-eqb n 0 h, ← f, not-false x g, ← i, not-true z j)
+
+  pub lent-right : (a b x z : Bool) → n ≡ 0 → x ≡ a → not x ≡ false → z ≡ b → not z ≡ false → lent stop k a b c ≡ c
+  unfolding lent
+  lent-right a b x z h f g i j = rw (← e, eq-eqb n 0 h, ← f, not-false x g, ← i, not-false z j)
+
 module _ (n k : ℕ) (c : Call) (l′ : List ℕ) (size r : ℕ) (e : n ≡ k) where
-  pub wrong-size : (a b : Bool) → (n ≡ 0 → ⊥) → Ended (stopped n) size l′ r → Ended (lent k a b c) size l′ r
-  unfolding lent
-  wrong-size a b h x = rw (← e, ne-eqb n 0 h) x
+  pub wrong-size : (a b : Bool) → (n ≡ 0 → ⊥) → Ended (stopped n) size l′ r → Ended (lent stopped k a b c) size l′ r
+  wrong-size a b h y = rw (lent-size stopped n k c e a b h) y
 
-  pub wrong-first : (a b x : Bool) → n ≡ 0 → x ≡ a → not x ≡ true → Ended (stopped 3) size l′ r → Ended (lent k a b c) size l′ r
-  unfolding lent
-  wrong-first a b x h f g y = rw (← e, eq-eqb n 0 h, ← f, not-true x g) y
+  pub wrong-first : (a b x : Bool) → n ≡ 0 → x ≡ a → not x ≡ true → Ended (stopped 3) size l′ r → Ended (lent stopped k a b c) size l′ r
+  wrong-first a b x h f g y = rw (lent-first stopped n k c e a b x h f g) y
 
-  pub wrong-second : (a b x z : Bool) → n ≡ 0 → x ≡ a → not x ≡ false → z ≡ b → not z ≡ true → Ended (stopped 3) size l′ r → Ended (lent k a b c) size l′ r
-  unfolding lent
-  wrong-second a b x z h f g i j y = rw (← e, eq-eqb n 0 h, ← f, not-false x g, ← i, not-true z j) y
+  pub wrong-second : (a b x z : Bool) → n ≡ 0 → x ≡ a → not x ≡ false → z ≡ b → not z ≡ true → Ended (stopped 3) size l′ r → Ended (lent stopped k a b c) size l′ r
+  wrong-second a b x z h f g i j y = rw (lent-second stopped n k c e a b x z h f g i j) y
 
-  pub right : (a b x z : Bool) → n ≡ 0 → x ≡ a → not x ≡ false → z ≡ b → not z ≡ false → Ended c size l′ r → Ended (lent k a b c) size l′ r
-  unfolding lent
-  right a b x z h f g i j y = rw (← e, eq-eqb n 0 h, ← f, not-false x g, ← i, not-false z j) y
+  pub right : (a b x z : Bool) → n ≡ 0 → x ≡ a → not x ≡ false → z ≡ b → not z ≡ false → Ended c size l′ r → Ended (lent stopped k a b c) size l′ r
+  right a b x z h f g i j y = rw (lent-right stopped n k c e a b x z h f g i j) y
 
 pub short-first : (text second n : ℕ) (l : List ℕ) → n ≡ sizes text (length l) second → n ≡ 0 → slots l ≤ 65536
 short-first text second n l s z = short text (length l) second (sym z ∙ s) .0

@@ -44,14 +44,14 @@ sizes text first second =
     (pick (eqb (second % 24) 0) 0 1)
     1)))
 
--- the sizes' number; 3 where one of the lists is not of its kind; then what the lists come to
-unfoldable pub lent : ℕ → Bool → Bool → Call → Call
-lent n first second c = pick (eqb n 0) (pick first (pick second c (stopped 3)) (stopped 3)) (stopped n)
+-- what a call comes to, `stop` being its refusals at place 0: the sizes' number; 3 where one of the lists is not of its kind; then c
+unfoldable pub lent : {A : Type 0} → (ℕ → A) → ℕ → Bool → Bool → A → A
+lent stop n first second c = pick (eqb n 0) (pick first (pick second c (stop 3)) (stop 3)) (stop n)
 
 -- isle_make_template: one pattern and its parameters
 unfoldable pub making : List ℕ → List ℕ → List ℕ → List ℕ → Call
 making text patt params out =
-    lent (sizes (length text) (length patt) (length params))
+    lent stopped (sizes (length text) (length patt) (length params))
     (isOne (length text) pattern (recs patt))
     (isMany (length text) name (recs params))
     (comes (templateAnswer text (recs patt) (recs params) (space out)) (templateRecords text (recs patt) (recs params)))
@@ -59,7 +59,7 @@ making text patt params out =
 -- isle_substitute: one template and any number of patterns
 unfoldable pub substituting : List ℕ → List ℕ → List ℕ → List ℕ → Call
 substituting text template patterns out =
-    lent (sizes (length text) (length template) (length patterns))
+    lent stopped (sizes (length text) (length template) (length patterns))
     (isOne (length text) pattern (recs template))
     (isMany (length text) pattern (recs patterns))
     (comes (substituteAnswer (recs template) (recs patterns) (space out)) (substitutedRecords (recs template) (recs patterns)))

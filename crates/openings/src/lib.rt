@@ -1,0 +1,88 @@
+// Opening for lent lists: the checks 7, 1 and 3, the work, and what the store and the output then hold.
+use forms::judge::definitions;
+use forms::judge::one_pattern;
+use opening::Answer;
+use opening::whole::open_into;
+use records::accepted;
+use records::refused;
+use templating::sizes;
+use words::clear;
+use words::clear_from;
+ghost use mathlib.Core.Path.{_≡_};
+ghost use Prim.Native.Nat.{ℕ, _≤_};
+ghost use lib.ListN.{length};
+ghost use Rattle.trees.specs.Tree.{treesOf};
+ghost use Rattle.records.specs.Slots.{recs};
+ghost use Rattle.records.specs.Result.{accepted};
+ghost use Rattle.grounds.specs.Grounds.{refusal};
+ghost use Rattle.grounds.specs.Opening.{treeOf, refuse, opening};
+ghost use Rattle.opening.specs.Answers.{spaceOf};
+ghost use Rattle.openings.specs.Calls.{openingOf, Ended, kept, Finished, Countable, Judged};
+
+// A refusal, and a store and an output of zeros.
+fn refuse(store: &mut [u8], out: &mut [u8], code: u8, place: u32) -> u64
+    ensures { λ r. ⌜ Ended (refuse (refusal code place)) (length (now (store .entry))) (length (now (out .entry))) (now (store .exit)) (now (out .exit)) r ⌝ }
+{
+    clear(store);
+    clear(out);
+    refused(code, place)
+}
+
+// n records of the store and m of the output are kept.
+fn keep(store: &mut [u8], out: &mut [u8], n: usize, m: usize) -> u64
+    requires { ⌜ (n ≤ 65536) × (m ≤ 65536) ⌝ }
+    ensures { λ r. ⌜ (r ≡ accepted m) × (now (store .exit) ≡ kept n (now (store .entry))) × (now (out .exit) ≡ kept m (now (out .entry))) ⌝ }
+{
+    clear_from(store, n * 24);
+    clear_from(out, m * 24);
+    accepted(m as u64)
+}
+
+// The end of a call: what it leaves in the store and in the output, and what it returns.
+fn finish(store: &mut [u8], out: &mut [u8], a: Answer) -> u64
+    requires { ⌜ Countable a ⌝ }
+    ensures { λ r. ⌜ Finished a (now (store .entry)) (now (out .entry)) (now (store .exit)) (now (out .exit)) r ⌝ }
+{
+    match a {
+        Answer::Accepted(n, m) => {
+            return keep(store, out, n, m);
+        }
+        Answer::Refused(code, place) => {
+            return refuse(store, out, code, place as u32);
+        }
+    }
+}
+
+// Definitions and a pattern that are of their kind.
+fn open_judged(
+    text: &[u8],
+    defs: &[u8],
+    pattern: &[u8],
+    ends: &mut [u32; 65536],
+    store: &mut [u8],
+    out: &mut [u8],
+) -> u64
+    requires { ⌜ Judged (now text) (now defs) (now pattern) ⌝ }
+    ensures { λ r. ⌜ Ended (opening (now (text .entry)) (treesOf (recs (now (defs .entry)))) (treeOf (recs (now (pattern .entry)))) (spaceOf (now (store .entry))) (spaceOf (now (out .entry)))) (length (now (store .entry))) (length (now (out .entry))) (now (store .exit)) (now (out .exit)) r ⌝ }
+{
+    let a = open_into(text, defs, pattern, ends, store, out);
+    finish(store, out, a)
+}
+
+// Any lent lists, any text, any store, any output.
+pub fn open(text: &[u8], defs: &[u8], pattern: &[u8], store: &mut [u8], out: &mut [u8]) -> u64
+    ensures { λ r. ⌜ Ended (openingOf (now (text .entry)) (now (defs .entry)) (now (pattern .entry)) (now (store .entry)) (now (out .entry))) (length (now (store .entry))) (length (now (out .entry))) (now (store .exit)) (now (out .exit)) r ⌝ }
+{
+    let n = sizes(text.len(), defs.len(), pattern.len());
+    if n != 0 {
+        return refuse(store, out, n, 0);
+    }
+    let mut ends = [0u32; 65536];
+    if !definitions(defs, text.len(), &mut ends) {
+        return refuse(store, out, 3, 0);
+    }
+    if !one_pattern(pattern, text.len(), &mut ends) {
+        return refuse(store, out, 3, 0);
+    }
+    open_judged(text, defs, pattern, &mut ends, store, out)
+}
