@@ -8,6 +8,8 @@ ghost use Rattle.parser.specs.Reading.{reading};
 ghost use Rattle.reading.specs.Answered.{Answered};
 ghost use Rattle.grammar.specs.Meaning.{Worth};
 ghost use Rattle.templating.specs.Calls.{Ended, making, substituting};
+ghost use Rattle.openings.specs.Calls.{Left, openingOf};
+ghost use Rattle.openings.specs.Meaning.{OpeningWorth};
 
 // The records of the definitions that the tokens are, or one refusal with its place. `answer` fixes the returned number and
 // every byte of the output; `meaning` says what they are worth: an acceptance that the grammar derives the whole list as these
@@ -36,4 +38,16 @@ pub extern "C" fn isle_substitute(text: &[u8], template: &[u8], patterns: &[u8],
     ensures answer { λ r. ⌜ Ended (substituting (now (text .entry)) (now (template .entry)) (now (patterns .entry)) (now (out .entry))) (length (now (out .entry))) (now (out .exit)) r ⌝ }
 {
     templating::fill(text, template, patterns, out)
+}
+
+// The pattern with its calls of extractors opened, to the output, and every extractor's opened template, in list order, to the store.
+// `answer` fixes the returned number and every byte of both. `meaning` is demand 3: a refusal is the ground of document 01 that holds at that place,
+// with none before it in the order; after an acceptance every list of single openings, anywhere and in any order, is bounded, ends in exactly these records
+// where no call is left, can otherwise be continued to them, and no step of it is refused.
+#[no_mangle]
+pub extern "C" fn isle_open(text: &[u8], defs: &[u8], pattern: &[u8], store: &mut [u8], out: &mut [u8]) -> u64
+    ensures answer { λ r. ⌜ Left (openingOf (now (text .entry)) (now (defs .entry)) (now (pattern .entry)) (now (store .entry)) (now (out .entry))) (length (now (store .entry))) (length (now (out .entry))) (now (store .exit)) (now (out .exit)) r ⌝ }
+    ensures meaning { λ r. ⌜ OpeningWorth (now (text .entry)) (now (defs .entry)) (now (pattern .entry)) (now (store .entry)) (now (out .entry)) (now (store .exit)) (now (out .exit)) r ⌝ }
+{
+    openings::open(text, defs, pattern, store, out)
 }

@@ -24,9 +24,9 @@ use Rattle.opening.specs.declared.Answer.the-variants.{Accepted, Refused}
 use Rattle.opening.proofs.AnswerLaws.{space-slots, space-most}
 use Rattle.templating.specs.Calls.{sizes, lent}
 use Rattle.templating.proofs.CallLaws.{short, lent-size, lent-first, lent-second, lent-right}
-use Rattle.openings.specs.Calls.{stopped, number, stored, written, Ended, kept, Finished, Countable, Judged}
+use Rattle.openings.specs.Calls.{stopped, number, stored, written, Left, kept, Finished, Countable, Judged}
 
-pub stops : (code place r : ℕ) (s o s′ o′ : List ℕ) → s′ ≡ replicate (length s) 0 → o′ ≡ replicate (length o) 0 → r ≡ refused code place → Ended (refuse (refusal code place)) (length s) (length o) s′ o′ r
+pub stops : (code place r : ℕ) (s o s′ o′ : List ℕ) → s′ ≡ replicate (length s) 0 → o′ ≡ replicate (length o) 0 → r ≡ refused code place → Left (refuse (refusal code place)) (length s) (length o) s′ o′ r
 unfolding number stored written
 stops code place r s o s′ o′ a b c = record { returns = c; store = a; output = b }
 
@@ -38,7 +38,7 @@ pub finish-kept : (a : Answer) (n m r : ℕ) (s o s′ o′ : List ℕ) → a �
 unfolding Finished
 finish-kept a n m r s o s′ o′ e h = rw e h
 
-pub finish-refused : (a : Answer) (code place r : ℕ) (s o s′ o′ : List ℕ) → a ≡ Refused code place → Ended (refuse (refusal code place)) (length s) (length o) s′ o′ r → Finished a s o s′ o′ r
+pub finish-refused : (a : Answer) (code place r : ℕ) (s o s′ o′ : List ℕ) → a ≡ Refused code place → Left (refuse (refusal code place)) (length s) (length o) s′ o′ r → Finished a s o s′ o′ r
 unfolding Finished
 finish-refused a code place r s o s′ o′ e h = rw e h
 
@@ -69,7 +69,7 @@ module _ (text defs p s o s₁ o₁ : List ℕ) where
       rw (z, w) (writes-cleared T l n c i)
 
   pub answers-ended : (a : Answer) (r : ℕ) (s₂ o₂ : List ℕ) → Answers text defs p s o s₁ o₁ a → Finished a s₁ o₁ s₂ o₂ r → length s₁ ≡ length s → length o₁ ≡ length o
-      → Ended (opening text (treesOf (recs defs)) (treeOf (recs p)) (spaceOf s) (spaceOf o)) (length s) (length o) s₂ o₂ r
+      → Left (opening text (treesOf (recs defs)) (treeOf (recs p)) (spaceOf s) (spaceOf o)) (length s) (length o) s₂ o₂ r
   unfolding Answers Finished number stored written
   answers-ended (Accepted n m) r s₂ o₂ (T, Q, e, w, v, c, d, h, k) (x, y, z) i j =
       rw e (record { returns = x ∙ ap accepted d; store = y ∙ cleared s s₁ T n w c h; output = z ∙ cleared o o₁ Q m v d k })
@@ -78,16 +78,16 @@ module _ (text defs p s o s₁ o₁ : List ℕ) where
 -- ---- the checks
 
 module _ (n k : ℕ) (c : Outcome) (s o : List ℕ) (size size′ r : ℕ) (e : n ≡ k) where
-  pub wrong-size : (a b : Bool) → (n ≡ 0 → ⊥) → Ended (stopped n) size size′ s o r → Ended (lent stopped k a b c) size size′ s o r
+  pub wrong-size : (a b : Bool) → (n ≡ 0 → ⊥) → Left (stopped n) size size′ s o r → Left (lent stopped k a b c) size size′ s o r
   wrong-size a b h y = rw (lent-size stopped n k c e a b h) y
 
-  pub wrong-first : (a b x : Bool) → n ≡ 0 → x ≡ a → not x ≡ true → Ended (stopped 3) size size′ s o r → Ended (lent stopped k a b c) size size′ s o r
+  pub wrong-first : (a b x : Bool) → n ≡ 0 → x ≡ a → not x ≡ true → Left (stopped 3) size size′ s o r → Left (lent stopped k a b c) size size′ s o r
   wrong-first a b x h f g y = rw (lent-first stopped n k c e a b x h f g) y
 
-  pub wrong-second : (a b x z : Bool) → n ≡ 0 → x ≡ a → not x ≡ false → z ≡ b → not z ≡ true → Ended (stopped 3) size size′ s o r → Ended (lent stopped k a b c) size size′ s o r
+  pub wrong-second : (a b x z : Bool) → n ≡ 0 → x ≡ a → not x ≡ false → z ≡ b → not z ≡ true → Left (stopped 3) size size′ s o r → Left (lent stopped k a b c) size size′ s o r
   wrong-second a b x z h f g i j y = rw (lent-second stopped n k c e a b x z h f g i j) y
 
-  pub right : (a b x z : Bool) → n ≡ 0 → x ≡ a → not x ≡ false → z ≡ b → not z ≡ false → Ended c size size′ s o r → Ended (lent stopped k a b c) size size′ s o r
+  pub right : (a b x z : Bool) → n ≡ 0 → x ≡ a → not x ≡ false → z ≡ b → not z ≡ false → Left c size size′ s o r → Left (lent stopped k a b c) size size′ s o r
   right a b x z h f g i j y = rw (lent-right stopped n k c e a b x z h f g i j) y
 
 pub ready-to-open : (text defs p : List ℕ) (n : ℕ) (x y : Bool) → n ≡ sizes (length text) (length defs) (length p) → n ≡ 0

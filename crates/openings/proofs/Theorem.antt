@@ -20,8 +20,8 @@ use Rattle.grounds.proofs.GroundLaws.{shaped}
 use Rattle.opening.specs.Answers.{spaceOf, patternSort}
 use Rattle.templating.specs.Calls.{sizes, lent}
 use Rattle.templating.proofs.CallLaws.{short}
-use Rattle.openings.specs.Calls.{stopped, openingOf, Ended}
-use Rattle.openings.specs.Meaning.{definitions, pattern, called, OfKind, NoGround, Meaning, ill-sized, ill-formed, ground, store-full, output-full, accepted, Worth}
+use Rattle.openings.specs.Calls.{stopped, openingOf, Left}
+use Rattle.openings.specs.Meaning.{definitions, pattern, called, OfKind, NoGround, Meaning, ill-sized, ill-formed, ground, store-full, output-full, accepted, OpeningWorth}
 
 module _ (text defs patt : List ℕ) (s o : ℕ) where
   lists : OfKind text defs patt → Meaning text defs patt s o (opening text (definitions text defs patt) (pattern text defs patt) s o)
@@ -54,6 +54,6 @@ module _ (text defs patt : List ℕ) (s o : ℕ) where
       go true e true f false g = rw (e, f, g) (ill-formed (eqb-true (sizes (length text) (length defs) (length patt)) 0 e) (λ k. false≢true (sym g ∙ k .one)))
       go true e true f true g = rw (e, f, g) (lists (record { sized = eqb-true (sizes (length text) (length defs) (length patt)) 0 e; many = f; one = g }))
 
-pub worth : (text defs patt s o s′ o′ : List ℕ) (r : ℕ) → Ended (openingOf text defs patt s o) (length s) (length o) s′ o′ r → Worth text defs patt s o s′ o′ r
+pub worth : (text defs patt s o s′ o′ : List ℕ) (r : ℕ) → Left (openingOf text defs patt s o) (length s) (length o) s′ o′ r → OpeningWorth text defs patt s o s′ o′ r
 unfolding openingOf
 worth text defs patt s o s′ o′ r e = record { outcome = openingOf text defs patt s o; ended = e; meaning = meaning text defs patt (spaceOf s) (spaceOf o) }

@@ -42,7 +42,7 @@ written n (accept templates patt) = writes (replicate n 0) 0 patt
 written n (refuse r) = replicate n 0
 
 -- the number r, a store of n bytes that holds s, and an output of m bytes that holds o
-pub record Ended (c : Outcome) (n m : ℕ) (s o : List ℕ) (r : ℕ) : Type 0 where
+pub record Left (c : Outcome) (n m : ℕ) (s o : List ℕ) (r : ℕ) : Type 0 where
   pub returns : r ≡ number c
   pub store : s ≡ stored n c
   pub output : o ≡ written m c
@@ -54,7 +54,7 @@ kept n l = take (n * 24) l ++ replicate (length l - n * 24) 0
 -- what an answer leaves of a store and an output
 unfoldable pub Finished : Answer → List ℕ → List ℕ → List ℕ → List ℕ → ℕ → Type 0
 Finished (Accepted n m) s o s′ o′ r = (r ≡ accepted m) × (s′ ≡ kept n s) × (o′ ≡ kept m o)
-Finished (Refused code place) s o s′ o′ r = Ended (refuse (refusal code place)) (length s) (length o) s′ o′ r
+Finished (Refused code place) s o s′ o′ r = Left (refuse (refusal code place)) (length s) (length o) s′ o′ r
 
 -- the answer's counts and place are ones that the number has space for
 unfoldable pub Countable : Answer → Type 0

@@ -17,7 +17,7 @@ use Rattle.grounds.specs.Refused.{Refused}
 use Rattle.grounds.specs.Opening.{treeOf, Outcome, accept, refuse}
 use Rattle.opening.specs.Answers.{spaceOf, patternSort}
 use Rattle.templating.specs.Calls.{sizes}
-use Rattle.openings.specs.Calls.{Ended}
+use Rattle.openings.specs.Calls.{Left}
 
 module _ (text defs patt : List ℕ) where
   abbrev pub definitions : Trees
@@ -63,7 +63,7 @@ module _ (text defs patt : List ℕ) where
         → Meaning s o (accept templatesOpened patternOpened)
 
 -- the number r, the store s′ and the output o′ are those of an outcome of which this holds
-pub record Worth (text defs patt s o s′ o′ : List ℕ) (r : ℕ) : Type 0 where
+pub record OpeningWorth (text defs patt s o s′ o′ : List ℕ) (r : ℕ) : Type 0 where
   pub outcome : Outcome
-  pub ended : Ended outcome (length s) (length o) s′ o′ r
+  pub ended : Left outcome (length s) (length o) s′ o′ r
   pub meaning : Meaning text defs patt (spaceOf s) (spaceOf o) outcome

@@ -17,11 +17,11 @@ ghost use Rattle.records.specs.Result.{accepted};
 ghost use Rattle.grounds.specs.Grounds.{refusal};
 ghost use Rattle.grounds.specs.Opening.{treeOf, refuse, opening};
 ghost use Rattle.opening.specs.Answers.{spaceOf};
-ghost use Rattle.openings.specs.Calls.{openingOf, Ended, kept, Finished, Countable, Judged};
+ghost use Rattle.openings.specs.Calls.{openingOf, Left, kept, Finished, Countable, Judged};
 
 // A refusal, and a store and an output of zeros.
 fn refuse(store: &mut [u8], out: &mut [u8], code: u8, place: u32) -> u64
-    ensures { λ r. ⌜ Ended (refuse (refusal code place)) (length (now (store .entry))) (length (now (out .entry))) (now (store .exit)) (now (out .exit)) r ⌝ }
+    ensures { λ r. ⌜ Left (refuse (refusal code place)) (length (now (store .entry))) (length (now (out .entry))) (now (store .exit)) (now (out .exit)) r ⌝ }
 {
     clear(store);
     clear(out);
@@ -63,7 +63,7 @@ fn open_judged(
     out: &mut [u8],
 ) -> u64
     requires { ⌜ Judged (now text) (now defs) (now pattern) ⌝ }
-    ensures { λ r. ⌜ Ended (opening (now (text .entry)) (treesOf (recs (now (defs .entry)))) (treeOf (recs (now (pattern .entry)))) (spaceOf (now (store .entry))) (spaceOf (now (out .entry)))) (length (now (store .entry))) (length (now (out .entry))) (now (store .exit)) (now (out .exit)) r ⌝ }
+    ensures { λ r. ⌜ Left (opening (now (text .entry)) (treesOf (recs (now (defs .entry)))) (treeOf (recs (now (pattern .entry)))) (spaceOf (now (store .entry))) (spaceOf (now (out .entry)))) (length (now (store .entry))) (length (now (out .entry))) (now (store .exit)) (now (out .exit)) r ⌝ }
 {
     let a = open_into(text, defs, pattern, ends, store, out);
     finish(store, out, a)
@@ -71,7 +71,7 @@ fn open_judged(
 
 // Any lent lists, any text, any store, any output.
 pub fn open(text: &[u8], defs: &[u8], pattern: &[u8], store: &mut [u8], out: &mut [u8]) -> u64
-    ensures { λ r. ⌜ Ended (openingOf (now (text .entry)) (now (defs .entry)) (now (pattern .entry)) (now (store .entry)) (now (out .entry))) (length (now (store .entry))) (length (now (out .entry))) (now (store .exit)) (now (out .exit)) r ⌝ }
+    ensures { λ r. ⌜ Left (openingOf (now (text .entry)) (now (defs .entry)) (now (pattern .entry)) (now (store .entry)) (now (out .entry))) (length (now (store .entry))) (length (now (out .entry))) (now (store .exit)) (now (out .exit)) r ⌝ }
 {
     let n = sizes(text.len(), defs.len(), pattern.len());
     if n != 0 {
