@@ -1,3 +1,4 @@
 pub mod Small
 pub mod Agreed
 pub mod Held
+pub mod SmallLists
