@@ -15,6 +15,8 @@ const RANDOM_CASES: usize = 900;
 const RANDOM_OPENINGS: usize = 150;
 /// Longer cases are left out, so that the file stays small.
 const LONGEST: usize = 40_000;
+/// So are openings with more space than this, in records.
+const MOST_LENT: usize = 4_096;
 
 pub fn make_templates(stored: &mut Stored) -> Result<(), String> {
     check_template_example()?;
@@ -205,7 +207,7 @@ fn add_opening(
         case.extend(store);
         case.extend(out);
     }
-    if case.len() <= LONGEST {
+    if case.len() <= LONGEST && space.iter().all(|records| *records <= MOST_LENT) {
         stored.add(case, (result >> 56) as u8);
     }
 }
