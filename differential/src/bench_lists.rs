@@ -116,6 +116,17 @@ pub fn opening() {
     heading("isle_open");
     let two = "(extractor (P x) (and x x))(extractor (Q x) (P (P x)))";
     let calls = |count: usize| format!("{two}(rule n (A{}) e)", " (Q z)".repeat(count));
+    // An argument of 20,000 records before one that is used so many times.
+    let passed_over = |uses: usize| {
+        let (used, large) = (" y".repeat(uses), " z".repeat(10_000));
+        format!("(extractor (U x y) (and{used}))(rule n (U (B{large}) z) e)")
+    };
+    // A call with so many arguments, each used once.
+    let arguments = |count: usize| {
+        let names: String = (0..count).map(|i| format!(" p{i}")).collect();
+        let given = " z".repeat(count);
+        format!("(extractor (M{names}) (and{names}))(rule n (M{given}) e)")
+    };
     let texts = [
         ("1,250 calls", calls(1_250)),
         ("2,500 calls", calls(2_500)),
@@ -123,6 +134,12 @@ pub fn opening() {
         ("nested 9 deep", nested(9)),
         ("nested 60 deep: 6", nested(60)),
         ("80 extractors doubling: 6", doubling(80)),
+        ("256 extractors doubling: 6", doubling(256)),
+        ("large argument passed over 1,000 times", passed_over(1_000)),
+        ("large argument passed over 4,000 times", passed_over(4_000)),
+        ("1,000 arguments", arguments(1_000)),
+        ("2,000 arguments", arguments(2_000)),
+        ("4,000 arguments", arguments(4_000)),
     ];
     for (name, text) in texts {
         let (lists, ..) = opening_case(&text).expect("a good text");
