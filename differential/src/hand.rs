@@ -151,6 +151,14 @@ pub fn deep_texts(depth: usize) -> Vec<String> {
     ]
 }
 
+/// How often an item fits between two pieces of text: no more tokens and bytes than are read.
+pub fn most_items(before: &str, item: &str, after: &str) -> usize {
+    let tokens = |text: &str| lex(text).expect("a good text").tokens.len();
+    let by_tokens = (MAX_TOKENS - tokens(before) - tokens(after)) / tokens(item);
+    let by_bytes = (MAX_TEXT - before.len() - after.len()) / item.len();
+    by_tokens.min(by_bytes)
+}
+
 /// Token lists that the lexer does not make.
 pub fn token_lists() -> Vec<Lent> {
     let mut lists = empty_symbols();

@@ -1,4 +1,8 @@
-//! Hand-written texts for templates, substitution and opening.
+//! Hand-written texts and lists for templates, substitution and opening.
+
+use crate::records::Words;
+
+pub const WILDCARD: Words = [36 << 56, 0, 0];
 
 /// Template making takes the last extractor; substitution takes the rules' patterns as well.
 pub const TEMPLATES: &[&str] = &[
@@ -98,4 +102,19 @@ pub fn doubling(count: usize) -> String {
 pub fn nested(depth: usize) -> String {
     let (open, close) = ("(D ".repeat(depth), ")".repeat(depth));
     format!("(extractor (D x) (A x x x))(extractor (K x y) x)(rule n (K {open}y{close} z) e)")
+}
+
+/// An And over these records.
+pub fn and(children: Vec<Words>) -> Vec<Words> {
+    let head = [37 << 56 | (children.len() as u64) << 32, 0, 0];
+    [vec![head], children].concat()
+}
+
+/// Ands inside each other, and in the innermost that record.
+pub fn chain(levels: usize, inside: Words) -> Vec<Words> {
+    [vec![[37 << 56 | 1 << 32, 0, 0]; levels], vec![inside]].concat()
+}
+
+pub fn wildcards(count: usize) -> Vec<Words> {
+    vec![WILDCARD; count]
 }

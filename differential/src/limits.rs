@@ -2,6 +2,7 @@
 
 use crate::Counts;
 use crate::reading::compare_outcome;
+use differential::hand::most_items;
 use differential::judge::judge;
 use differential::model;
 use differential::oracle::{Lent, lex};
@@ -34,9 +35,7 @@ fn many_tokens() -> Vec<Lent> {
     let mut lists = Vec::new();
     for (before, item, after) in forms {
         let text = |times: usize| lex(&format!("{before}{}{after}", item.repeat(times)));
-        let tokens = |times: usize| text(times).expect("a good text").tokens.len();
-        let (outside, each) = (tokens(0), tokens(1) - tokens(0));
-        let times = (MAX_TOKENS - outside) / each;
+        let times = most_items(before, item, after);
         lists.extend([text(times), text(times + 1)].into_iter().flatten());
     }
     lists.iter().cloned().flat_map(exactly).collect()

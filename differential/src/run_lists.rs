@@ -5,8 +5,6 @@ use differential::generate_lists::damage_lists;
 use differential::records::*;
 use differential::steps::Lists;
 
-pub const WILDCARD: Words = [36 << 56, 0, 0];
-
 /// Damages the lists, once in a while so that one ends inside a record.
 pub fn damage(random: &mut Random, lists: &mut Lists) {
     damage_lists(random, lists);
@@ -33,19 +31,4 @@ pub fn shown(lists: &Lists) -> String {
         }
     }
     lines
-}
-
-/// An And over these records.
-pub fn and(children: Vec<Words>) -> Vec<Words> {
-    let head = [37 << 56 | (children.len() as u64) << 32, 0, 0];
-    [vec![head], children].concat()
-}
-
-/// Ands inside each other, and in the innermost that record.
-pub fn chain(levels: usize, inside: Words) -> Vec<Words> {
-    [vec![[37 << 56 | 1 << 32, 0, 0]; levels], vec![inside]].concat()
-}
-
-pub fn wildcards(count: usize) -> Vec<Words> {
-    vec![WILDCARD; count]
 }

@@ -4,7 +4,7 @@ use crate::run_lists::*;
 use crate::{Counts, library};
 use differential::generate::Random;
 use differential::generate_lists::template_text;
-use differential::hand_lists::TEMPLATES;
+use differential::hand_lists::*;
 use differential::judge_lists::*;
 use differential::outputs::*;
 use differential::records::*;
