@@ -119,10 +119,6 @@ pub fn template_case(text: &str) -> Option<(Lists, Vec<Words>)> {
     Some((lists, pattern_records(&[made(&extractor)])))
 }
 
-fn made(extractor: &Extractor) -> Pattern {
-    extractor.template.make_macro_template(&extractor.args)
-}
-
 /// Substitution: the lists, and what the crate gives. Arguments are the rules' patterns,
 /// and with `own` the template itself is one more.
 pub fn substitution_case(text: &str, own: bool) -> Option<(Lists, Option<Vec<Words>>)> {

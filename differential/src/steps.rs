@@ -112,22 +112,61 @@ fn step(extractors: &[Extractor], pattern: &Pattern, chosen: &mut usize) -> Patt
     if let Some(extractor) = callee(extractors, pattern) {
         if *chosen == 0 {
             *chosen = usize::MAX;
-            let template = extractor.template.make_macro_template(&extractor.args);
-            return template
-                .subst_macro_args(children(pattern))
-                .expect("enough arguments");
+            return with_arguments(&made(extractor), pattern);
         }
         *chosen -= 1;
     }
     let mut copy = pattern.clone();
-    match &mut copy {
-        Pattern::BindPattern { subpat, .. } => **subpat = step(extractors, subpat, chosen),
+    each_child(&mut copy, |child| *child = step(extractors, child, chosen));
+    copy
+}
+
+/// Every template in list order, and the pattern, with each call in them replaced once, its
+/// arguments before it.
+pub fn open_innermost_first(
+    extractors: &[Extractor],
+    pattern: &Pattern,
+) -> (Vec<Pattern>, Pattern) {
+    let mut opened = Vec::new();
+    for extractor in extractors {
+        let mut template = made(extractor);
+        open_calls(extractors, &opened, &mut template);
+        opened.push(template);
+    }
+    let mut pattern = pattern.clone();
+    open_calls(extractors, &opened, &mut pattern);
+    (opened, pattern)
+}
+
+/// Replaces each call of an extractor whose opened template is there.
+fn open_calls(extractors: &[Extractor], opened: &[Pattern], pattern: &mut Pattern) {
+    each_child(pattern, |child| open_calls(extractors, opened, child));
+    let Some(sym) = pattern.root_term() else {
+        return;
+    };
+    let called = |(extractor, _): &(&Extractor, &Pattern)| extractor.term.0 == sym.0;
+    if let Some((_, template)) = extractors.iter().zip(opened).find(called) {
+        *pattern = with_arguments(template, pattern);
+    }
+}
+
+/// The template of an extractor, unopened.
+pub fn made(extractor: &Extractor) -> Pattern {
+    extractor.template.make_macro_template(&extractor.args)
+}
+
+/// A template with the arguments of a call.
+fn with_arguments(template: &Pattern, call: &Pattern) -> Pattern {
+    let substituted = template.subst_macro_args(children(call));
+    substituted.expect("enough arguments")
+}
+
+fn each_child(pattern: &mut Pattern, mut change: impl FnMut(&mut Pattern)) {
+    match pattern {
+        Pattern::BindPattern { subpat, .. } => change(subpat),
         Pattern::Term { args: list, .. } | Pattern::And { subpats: list, .. } => {
-            for child in list {
-                *child = step(extractors, child, chosen);
-            }
+            list.iter_mut().for_each(change)
         }
         _ => {}
     }
-    copy
 }
