@@ -6,7 +6,6 @@ use differential::generate::*;
 use differential::judge::judge;
 use differential::model;
 use differential::oracle::{Lent, lex};
-use differential::outputs::*;
 use differential::records::*;
 
 /// One random input, compared with outputs of several sizes.
@@ -61,18 +60,9 @@ pub fn compare_outcome(
     more: usize,
     counts: &mut Counts,
 ) -> Result<(), String> {
-    counts.inputs += 1;
-    let count = outcome.as_ref().map_or(0, Vec::len);
-    for length in lengths(count, more) {
-        let expected = answer(outcome, length);
-        call_with(length, |out| {
-            library::read(tokens, &lent.text, lent.end, out)
-        })
-        .and_then(|found| same_answer(&expected, &found))
-        .map_err(|message| format!("{}\n{message}", shown(lent)))?;
-        counts.add_call(expected.result);
-    }
-    Ok(())
+    let read = |out: &mut [u8]| library::read(tokens, &lent.text, lent.end, out);
+    let compared = counts.compare(outcome, more, read);
+    compared.map_err(|message| format!("{}\n{message}", shown(lent)))
 }
 
 /// The input, for a message.

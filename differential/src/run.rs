@@ -11,6 +11,8 @@ mod run_opening;
 mod run_templates;
 
 use differential::generate::Random;
+use differential::outputs::*;
+use differential::records::*;
 use std::collections::BTreeMap;
 use std::process::ExitCode;
 
@@ -31,6 +33,23 @@ impl Counts {
     pub fn add_call(&mut self, result: u64) {
         self.calls += 1;
         *self.by_number.entry((result >> 56) as u8).or_default() += 1;
+    }
+
+    /// Makes a call with outputs of several sizes and compares every byte.
+    pub fn compare(
+        &mut self,
+        outcome: &Outcome,
+        more: usize,
+        call: impl Fn(&mut [u8]) -> u64,
+    ) -> Result<(), String> {
+        self.inputs += 1;
+        let count = outcome.as_ref().map_or(0, Vec::len);
+        for length in lengths(count, more) {
+            let expected = answer(outcome, length);
+            same_answer(&expected, &call_with(length, &call)?)?;
+            self.add_call(expected.result);
+        }
+        Ok(())
     }
 
     fn line(&self, name: &str) -> String {

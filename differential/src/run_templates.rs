@@ -6,7 +6,6 @@ use differential::generate::Random;
 use differential::generate_lists::template_text;
 use differential::hand_lists::*;
 use differential::judge_lists::*;
-use differential::outputs::*;
 use differential::records::*;
 use differential::steps::Lists;
 
@@ -27,6 +26,22 @@ pub fn compare(random: &mut Random, count: u64) -> Result<Vec<String>, String> {
     ])
 }
 
+/// An entry of the library, and the model of it.
+struct Entry {
+    call: fn(&Lists, &mut [u8]) -> u64,
+    model: fn(&Lists) -> Outcome,
+}
+
+const MAKE_TEMPLATE: Entry = Entry {
+    call: library::make_template,
+    model: make_template,
+};
+
+const SUBSTITUTE: Entry = Entry {
+    call: library::substitute,
+    model: substitute,
+};
+
 /// Both entries on the lists of a text, whole and damaged.
 fn compare_text(
     random: &mut Random,
@@ -35,49 +50,45 @@ fn compare_text(
     substituted: &mut Counts,
 ) -> Result<(), String> {
     let more = 1 + random.below(60);
-    if let Some((mut lists, outcome)) = judge_template(text)? {
-        one(&lists, &outcome, more, library::make_template, made)?;
-        damage(random, &mut lists);
-        one(
-            &lists,
-            &make_template(&lists),
-            more,
-            library::make_template,
-            made,
-        )?;
+    if let Some((lists, outcome)) = judge_template(text)? {
+        MAKE_TEMPLATE.compare_to(&lists, &outcome, more, made)?;
+        MAKE_TEMPLATE.compare_damaged(random, lists, more, made)?;
     }
-    if let Some((mut lists, outcome)) = judge_substitution(text, random.once_in(3))? {
-        one(&lists, &outcome, more, library::substitute, substituted)?;
-        damage(random, &mut lists);
-        one(
-            &lists,
-            &substitute(&lists),
-            more,
-            library::substitute,
-            substituted,
-        )?;
+    if let Some((lists, outcome)) = judge_substitution(text, random.once_in(3))? {
+        SUBSTITUTE.compare_to(&lists, &outcome, more, substituted)?;
+        SUBSTITUTE.compare_damaged(random, lists, more, substituted)?;
     }
     Ok(())
 }
 
-/// Calls an entry with outputs of several sizes and compares every byte.
-fn one(
-    lists: &Lists,
-    outcome: &Outcome,
-    more: usize,
-    entry: fn(&Lists, &mut [u8]) -> u64,
-    counts: &mut Counts,
-) -> Result<(), String> {
-    counts.inputs += 1;
-    let count = outcome.as_ref().map_or(0, Vec::len);
-    for length in lengths(count, more) {
-        let expected = answer(outcome, length);
-        call_with(length, |out| entry(lists, out))
-            .and_then(|found| same_answer(&expected, &found))
-            .map_err(|message| format!("{}\n{message}", shown(lists)))?;
-        counts.add_call(expected.result);
+impl Entry {
+    fn compare_to(
+        &self,
+        lists: &Lists,
+        outcome: &Outcome,
+        more: usize,
+        counts: &mut Counts,
+    ) -> Result<(), String> {
+        let compared = counts.compare(outcome, more, |out| (self.call)(lists, out));
+        compared.map_err(|message| format!("{}\n{message}", shown(lists)))
     }
-    Ok(())
+
+    fn compare_damaged(
+        &self,
+        random: &mut Random,
+        mut lists: Lists,
+        more: usize,
+        counts: &mut Counts,
+    ) -> Result<(), String> {
+        damage(random, &mut lists);
+        self.compare_to(&lists, &(self.model)(&lists), more, counts)
+    }
+
+    /// With outputs of more space than a list may hold.
+    fn compare(&self, lists: &Lists, counts: &mut Counts) -> Result<(), String> {
+        let more = 2 * MAX_RECORDS * WIDTH;
+        self.compare_to(lists, &(self.model)(lists), more, counts)
+    }
 }
 
 const IDENT: Words = [24 << 56, 1, 0];
@@ -101,45 +112,22 @@ fn compare_limits(made: &mut Counts, substituted: &mut Counts) -> Result<(), Str
     for text in [MAX_TEXT, MAX_TEXT + 1] {
         for count in [MAX_RECORDS, MAX_RECORDS + 1] {
             let full = and(wildcards(deepest));
-            compare_made(&lists(text, full, vec![IDENT; count]), made)?;
+            MAKE_TEMPLATE.compare(&lists(text, full, vec![IDENT; count]), made)?;
             let last = vec![macro_arg(deepest as u64)];
-            compare_substituted(&lists(text, last, wildcards(count)), substituted)?;
+            SUBSTITUTE.compare(&lists(text, last, wildcards(count)), substituted)?;
         }
     }
-    compare_made(&lists(1, chain(deepest, WILDCARD), vec![IDENT]), made)?;
-    compare_made(&lists(1, chain(deepest, macro_arg(0)), vec![IDENT]), made)?;
+    MAKE_TEMPLATE.compare(&lists(1, chain(deepest, WILDCARD), vec![IDENT]), made)?;
+    MAKE_TEMPLATE.compare(&lists(1, chain(deepest, macro_arg(0)), vec![IDENT]), made)?;
     let deep = chain(deepest, macro_arg(0));
-    compare_substituted(&lists(1, deep.clone(), wildcards(1)), substituted)?;
-    compare_substituted(&lists(1, deep.clone(), vec![]), substituted)?;
-    compare_substituted(&lists(1, deep, chain(deepest, WILDCARD)), substituted)?;
+    SUBSTITUTE.compare(&lists(1, deep.clone(), wildcards(1)), substituted)?;
+    SUBSTITUTE.compare(&lists(1, deep.clone(), vec![]), substituted)?;
+    SUBSTITUTE.compare(&lists(1, deep, chain(deepest, WILDCARD)), substituted)?;
     for count in [1, 2, 256, deepest] {
         for size in [1, 255, 256, MAX_RECORDS] {
             let template = and(vec![macro_arg(0); count]);
-            compare_substituted(&lists(9, template, and(wildcards(size - 1))), substituted)?;
+            SUBSTITUTE.compare(&lists(9, template, and(wildcards(size - 1))), substituted)?;
         }
     }
     Ok(())
-}
-
-/// More space than a list may hold.
-const LARGE: usize = 2 * MAX_RECORDS * WIDTH;
-
-fn compare_made(lists: &Lists, made: &mut Counts) -> Result<(), String> {
-    one(
-        lists,
-        &make_template(lists),
-        LARGE,
-        library::make_template,
-        made,
-    )
-}
-
-fn compare_substituted(lists: &Lists, substituted: &mut Counts) -> Result<(), String> {
-    one(
-        lists,
-        &substitute(lists),
-        LARGE,
-        library::substitute,
-        substituted,
-    )
 }
