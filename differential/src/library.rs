@@ -30,20 +30,27 @@ pub fn read(tokens: &[u8], text: &[u8], end: u32, out: &mut [u8]) -> u64 {
     }
 }
 
+/// Calls an entry on the text and the two lists, with these outputs.
+#[cfg(any(has_templates, has_opening))]
+macro_rules! call {
+    ($entry:expr, $lists:expr, $($out:expr),+) => {
+        unsafe {
+            $entry(
+                $lists.text.as_ptr(),
+                $lists.text.len(),
+                $lists.first.as_ptr(),
+                $lists.first.len(),
+                $lists.second.as_ptr(),
+                $lists.second.len(),
+                $($out.as_mut_ptr(), $out.len()),+
+            )
+        }
+    };
+}
+
 #[cfg(has_templates)]
 mod templates {
     use differential::steps::Lists;
-
-    type Entry = unsafe extern "C" fn(
-        *const u8,
-        usize,
-        *const u8,
-        usize,
-        *const u8,
-        usize,
-        *mut u8,
-        usize,
-    ) -> u64;
 
     unsafe extern "C" {
         fn isle_make_template(
@@ -68,32 +75,12 @@ mod templates {
         ) -> u64;
     }
 
-    fn call(entry: Entry, lists: &Lists, out: &mut [u8]) -> u64 {
-        let Lists {
-            text,
-            first,
-            second,
-        } = lists;
-        unsafe {
-            entry(
-                text.as_ptr(),
-                text.len(),
-                first.as_ptr(),
-                first.len(),
-                second.as_ptr(),
-                second.len(),
-                out.as_mut_ptr(),
-                out.len(),
-            )
-        }
-    }
-
     pub fn make_template(lists: &Lists, out: &mut [u8]) -> u64 {
-        call(isle_make_template, lists, out)
+        call!(isle_make_template, lists, out)
     }
 
     pub fn substitute(lists: &Lists, out: &mut [u8]) -> u64 {
-        call(isle_substitute, lists, out)
+        call!(isle_substitute, lists, out)
     }
 }
 
@@ -120,25 +107,7 @@ mod opening {
     }
 
     pub fn open(lists: &Lists, store: &mut [u8], out: &mut [u8]) -> u64 {
-        let Lists {
-            text,
-            first,
-            second,
-        } = lists;
-        unsafe {
-            isle_open(
-                text.as_ptr(),
-                text.len(),
-                first.as_ptr(),
-                first.len(),
-                second.as_ptr(),
-                second.len(),
-                store.as_mut_ptr(),
-                store.len(),
-                out.as_mut_ptr(),
-                out.len(),
-            )
-        }
+        call!(isle_open, lists, store, out)
     }
 }
 
