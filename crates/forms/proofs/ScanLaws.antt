@@ -27,9 +27,20 @@ scan-first t base n at list stack e h =
 pub scan-start : (t base at : ℕ) (list stack : List ℕ) → fits t base (pending stack at) (left list 0) ≡ fits t base (pending stack at) (recs list)
 scan-start t base at list stack = ap (fits t base (pending stack at)) (left-all list)
 
-module _ (t base n : ℕ) (list stack : List ℕ) (top i below s : ℕ) (r : Rec) (b f : Bool)
-    (read : r ≡ recAt list i) (want : s ≡ next base (pending stack top)) (under : below ≡ top - 1) (judged : b ≡ good t s r)
+-- by the row of the record
+good-row : (t s : ℕ) (r : Rec) (w : Row) (b : Bool) → w ≡ rowFor (r .kind) (r .flags) → b ≡ stands t s w r → b ≡ good t s r
+good-row t s r w b e f = f ∙ ap (λ (x : Row). stands t s x r) e
+
+pushed-row : (s s′ : List ℕ) (top top′ : ℕ) (r : Rec) (w : Row) → w ≡ rowFor (r .kind) (r .flags) → Pushed s s′ top top′ (sortsOf w (r .count)) → Pushed s s′ top top′ (children r)
+pushed-row s s′ top top′ r w e p = rw (← e) p
+
+module _ (t base n : ℕ) (list stack : List ℕ) (top i below s : ℕ) (r : Rec) (w : Row) (b f : Bool)
+    (read : r ≡ recAt list i) (want : s ≡ next base (pending stack top)) (under : below ≡ top - 1)
+    (found : w ≡ rowFor (r .kind) (r .flags)) (tested : b ≡ stands t s w r)
     (inv : fits t base (pending stack top) (left list i) ≡ f) (all : n ≡ slots list) (more : i < n) where
+  judged : b ≡ good t s r
+  judged = good-row t s r w b found tested
+
   turn : good t s r and fits t base (children r ++ pending stack below) (left list (i + 1)) ≡ f
   unfolding fits
   turn =
@@ -45,9 +56,9 @@ module _ (t base n : ℕ) (list stack : List ℕ) (top i below s : ℕ) (r : Rec
       sym (and-false _)
       ∙ (rw (fits-short t base (children r ++ pending stack below) (left list (i + 1)) (simp (length-append, length-left, size, length-pending) (omega arith))) at turn)
 
-  pub scan-again : (stack′ : List ℕ) (top′ : ℕ) → Pushed stack stack′ below top′ (children r) → not b ≡ false → fits t base (pending stack′ top′) (left list (i + 1)) ≡ f
+  pub scan-again : (stack′ : List ℕ) (top′ : ℕ) → Pushed stack stack′ below top′ (sortsOf w (r .count)) → not b ≡ false → fits t base (pending stack′ top′) (left list (i + 1)) ≡ f
   scan-again stack′ top′ q e =
-      rw (q .holds, ← true-and (fits t base (children r ++ pending stack below) (left list (i + 1)))) (rw (← judged, not-false b e) at turn)
+      rw (pushed-row stack stack′ below top′ r w found q .holds, ← true-and (fits t base (children r ++ pending stack below) (left list (i + 1)))) (rw (← judged, not-false b e) at turn)
 
 pub scan-end : (t base n : ℕ) (list stack : List ℕ) (top i : ℕ) (f : Bool) → fits t base (pending stack top) (left list i) ≡ f → n ≡ slots list → n ≤ i → top ≤ n - i → true ≡ f
 unfolding fits pending
@@ -57,18 +68,8 @@ scan-end t base n list stack top i f inv e h l =
     rw (z, left-none list i k) at inv
 
 -- where a record may stand, its single children are counted
-pub scan-enough : (t s : ℕ) (r : Rec) (b : Bool) → b ≡ good t s r → not b ≡ false → singles (rowFor (r .kind) (r .flags)) ≤ r .count
-scan-enough t s r b e f = enough t s (rowFor (r .kind) (r .flags)) r (sym e ∙ not-false b f)
-
--- by the row of the record
-pub good-row : (t s : ℕ) (r : Rec) (w : Row) (b : Bool) → w ≡ rowFor (r .kind) (r .flags) → b ≡ stands t s w r → b ≡ good t s r
-good-row t s r w b e f = f ∙ ap (λ (x : Row). stands t s x r) e
-
-pub enough-row : (c : ℕ) (w v : Row) → w ≡ v → singles v ≤ c → singles w ≤ c
-enough-row c w v e h = rw e h
-
-pub pushed-row : (s s′ : List ℕ) (top top′ : ℕ) (r : Rec) (w : Row) → w ≡ rowFor (r .kind) (r .flags) → Pushed s s′ top top′ (sortsOf w (r .count)) → Pushed s s′ top top′ (children r)
-pushed-row s s′ top top′ r w e p = rw (← e) p
+pub scan-enough : (t s : ℕ) (r : Rec) (w : Row) (b : Bool) → b ≡ stands t s w r → not b ≡ false → singles w ≤ r .count
+scan-enough t s r w b e f = enough t s w r (sym e ∙ not-false b f)
 
 -- one sort on the stack, and none
 pub one-pending : (t s : ℕ) (rs : List Rec) (stack : List ℕ) (y : Bool) → 65536 ≤ length (set stack 0 s) → y ≡ fits t 0 (pending (set stack 0 s) 1) rs → y ≡ fits t 0 (s ∷ []) rs

@@ -13,6 +13,7 @@ use Rattle.forms.specs.declared.Row.{Row}
 use Rattle.forms.specs.Kinds.{none}
 use Rattle.forms.specs.Forms.{placed, one, run, some, singles, leading, sortsOf, next, rest}
 use Rattle.forms.specs.Stack.{pending, Pushed}
+use Rattle.forms.proofs.Exact.{length-sortsOf}
 
 pub length-pending : (s : List ℕ) (n : ℕ) → length (pending s n) ≡ n
 unfolding pending
@@ -99,3 +100,12 @@ run-end s s₁ top at x n j p h k =
     let e : n - j ≡ 0 = omega arith in
     let f : j ≡ n = omega arith in
     rw (e, f) at p
+
+length-zero : (l : List ℕ) → length l ≡ 0 → [] ≡ l
+length-zero [] e = refl
+length-zero (x ∷ l) e = absurd (omega arith)
+
+-- a record without children puts nothing on the stack
+pub pushed-childless : (s : List ℕ) (top n : ℕ) (w : Row) → singles w ≤ n → n ≡ 0 → Pushed s s top top (sortsOf w n)
+pushed-childless s top n w h e =
+    record { holds = ap (_++ pending s top) (length-zero (sortsOf w n) (length-sortsOf w n h ∙ e)) }

@@ -50,15 +50,15 @@ table-row l i e h = rw e (same-row (numbersFrom 0 (4 + kindsEnd)) (9 * i) (rowAt
 
 -- ---- which row a record has
 
-pub row-rule : (k f : ℕ) (w : Row) → w ≡ rowAt f → k ≡ 20 → f < 4 → w ≡ rowFor k f
+pub row-rule : (k f : ℕ) → k ≡ 20 → f < 4 → rowAt f ≡ rowFor k f
 unfolding rowAt rowFor
-row-rule k f w e n h = e ∙ rw (n, lt-ltb f 4 h)
+row-rule k f n h = rw (n, lt-ltb f 4 h)
 
-pub row-kind : (k f : ℕ) (w : Row) → w ≡ rowAt (4 + k) → (k ≡ 20 → ⊥) → w ≡ rowFor k f
+pub row-kind : (k f : ℕ) → (k ≡ 20 → ⊥) → rowAt (4 + k) ≡ rowFor k f
 unfolding rowAt rowFor
-row-kind k f w d h =
+row-kind k f h =
     let e : 4 + k - 4 ≡ k = omega arith in
-    d ∙ rw (le-ltb (4 + k) 4 (omega arith), e, ne-eqb k 20 h)
+    rw (le-ltb (4 + k) 4 (omega arith), e, ne-eqb k 20 h)
 
 -- every row's kind and flags are in the table
 inTable : List Entry → Bool
@@ -89,10 +89,13 @@ row-none : rowAt 4 ≡ nobody
 unfolding rowAt find rows _and_
 row-none = refl
 
-pub row-past : (k f : ℕ) (w : Row) → w ≡ rowAt 4 → kindsEnd ≤ k → w ≡ rowFor k f
+pub row-past : (k f : ℕ) → kindsEnd ≤ k → rowAt 4 ≡ rowFor k f
 unfolding rowFor
-row-past k f w e h = e ∙ row-none ∙ sym (absent-kind k (pick (eqb k 20) f 0) rows h all-in)
+row-past k f h = row-none ∙ sym (absent-kind k (pick (eqb k 20) f 0) rows h all-in)
 
-pub row-bad-flags : (k f : ℕ) (w : Row) → w ≡ rowAt 4 → k ≡ 20 → 4 ≤ f → w ≡ rowFor k f
+pub row-bad-flags : (k f : ℕ) → k ≡ 20 → 4 ≤ f → rowAt 4 ≡ rowFor k f
 unfolding rowFor
-row-bad-flags k f w e n h = e ∙ row-none ∙ sym (rw n (absent-flags 20 f rows h all-in))
+row-bad-flags k f n h = row-none ∙ sym (rw n (absent-flags 20 f rows h all-in))
+
+pub row-found : (i k f : ℕ) (w : Row) → rowAt i ≡ rowFor k f → w ≡ rowAt i → w ≡ rowFor k f
+row-found i k f w e d = d ∙ e

@@ -1,6 +1,5 @@
 // Whether a record may stand where a sort is expected, and the stack of the sorts still expected.
 use crate::Row;
-use crate::table::Cells;
 use crate::table::numbers;
 use crate::table::row_of;
 use records::rec_at;
@@ -11,9 +10,8 @@ ghost use Prim.Native.Nat.{_+_, _-_, _≤_, _<_};
 ghost use lib.ListN.{length};
 ghost use lib.Dec.{eqb};
 ghost use Rattle.records.specs.Slots.{slots, recs};
-ghost use Rattle.forms.specs.Kinds.{pattern, definition, name, rowFor};
-ghost use Rattle.forms.specs.Table.{table};
-ghost use Rattle.forms.specs.Forms.{placed, one, run, some, singles, leading, sortsOf, positionOk, wordsOk, children, stands, good, next, fits, isOne, isMany};
+ghost use Rattle.forms.specs.Kinds.{pattern, definition, name};
+ghost use Rattle.forms.specs.Forms.{placed, one, run, some, singles, leading, sortsOf, positionOk, wordsOk, stands, next, fits, isOne, isMany};
 ghost use Rattle.forms.specs.Stack.{pending, Pushed};
 
 // One where there is a child of the sort s.
@@ -150,27 +148,13 @@ fn push_children(stack: &mut [u32], top: usize, w: Row, c: usize) -> usize
     requires { ⌜ (top + c ≤ length (now stack)) × (singles w ≤ c) × (c ≤ 65536) ⌝ }
     ensures { λ y. ⌜ Pushed (now (stack .entry)) (now (stack .exit)) top y (sortsOf w c) × (y ≡ top + c) ⌝ }
 {
+    if c == 0 {
+        return top;
+    }
     let n = c - singles(w);
     let last = push_one(stack, top, w.last);
     let any = push_run(stack, last, w.any, n);
     push_leading(stack, any, w)
-}
-
-// Whether a record may stand where the sort s is expected.
-fn is_good(numbers: &Cells, t: usize, s: u32, r: Rec) -> bool
-    requires { ⌜ now numbers ≡ table ⌝ }
-    ensures { λ y. ⌜ y ≡ good t s r ⌝ }
-{
-    may_stand(t, s, row_of(numbers, r.kind, r.flags), r)
-}
-
-// Puts the children of a record on the stack, the first on top. The new top.
-fn push_record(numbers: &Cells, stack: &mut [u32], top: usize, r: Rec) -> usize
-    requires { ⌜ (now numbers ≡ table) × (top + r .count ≤ length (now stack)) × (singles (rowFor (r .kind) (r .flags)) ≤ r .count) ⌝ }
-    ensures { λ y. ⌜ Pushed (now (stack .entry)) (now (stack .exit)) top y (children r) × (y ≡ top + r .count) ⌝ }
-{
-    let w = row_of(numbers, r.kind, r.flags);
-    push_children(stack, top, w, r.count as usize)
 }
 
 // The sort expected next.
@@ -209,14 +193,15 @@ fn scan(list: &[u8], t: usize, base: u32, stack: &mut [u32], at: usize) -> bool
         let r = rec_at(list, i);
         let s = expected(stack, top, base);
         let below = less(top);
-        if !is_good(&rows, t, s, r) {
+        let w = row_of(&rows, r.kind, r.flags);
+        if !may_stand(t, s, w, r) {
             return false;
         }
         let count = r.count as usize;
         if n - (i + 1) < below + count {
             return false;
         }
-        top = push_record(&rows, stack, below, r);
+        top = push_children(stack, below, w, count);
         i += 1;
     }
     true

@@ -90,19 +90,26 @@ fn row_at(numbers: &Cells, i: usize) -> Row
     }
 }
 
+// The number of the row of a record's kind and flags.
+fn row_number(kind: u8, flags: u8) -> usize
+    ensures { λ i. ⌜ (i < 4 + kindsEnd) × (rowAt i ≡ rowFor kind flags) ⌝ }
+{
+    if kind == 20 {
+        if flags < 4 {
+            return flags as usize;
+        }
+        return 4;
+    }
+    if kind < KINDS_END {
+        return 4 + kind as usize;
+    }
+    4
+}
+
 // The row of a record's kind and flags.
 pub fn row_of(numbers: &Cells, kind: u8, flags: u8) -> Row
     requires { ⌜ now numbers ≡ table ⌝ }
     ensures { λ r. ⌜ r ≡ rowFor kind flags ⌝ }
 {
-    if kind == 20 {
-        if flags < 4 {
-            return row_at(numbers, flags as usize);
-        }
-        return row_at(numbers, 4);
-    }
-    if kind < KINDS_END {
-        return row_at(numbers, 4 + kind as usize);
-    }
-    row_at(numbers, 4)
+    row_at(numbers, row_number(kind, flags))
 }

@@ -29,11 +29,11 @@ use Rattle.templates.specs.declared.Answer.{Answer}
 use Rattle.templates.specs.declared.Answer.the-variants.{MacroArg}
 use Rattle.templates.specs.declared.making.Found.{Found}
 use Rattle.templates.specs.declared.making.Found.the-variants.{At, Nothing}
-use Rattle.templates.specs.declared.making.Made.{Made}
+use Rattle.templates.specs.declared.making.Appended.{Appended}
 use Rattle.templates.proofs.making.Found.{the-type}
 use Rattle.templates.specs.Answers.{firstOf, isArg, space, settled, templateRecords, templateAnswer, Answered, Leaf, Params, MakeReady}
 use Rattle.templates.specs.Writing.{Wrote, Reaches}
-use Rattle.templates.specs.Scans.{optionOf, paramsOf, namedNext, namedAt, wildcardAt, parameterAt, makingFrom, afterParameter, MadeAt}
+use Rattle.templates.specs.Scans.{optionOf, paramsOf, namedNext, namedAt, wildcardAt, parameterAt, makingFrom, argument, afterParameter, MadeAt, AppendedAt}
 use Rattle.templates.proofs.WriteLaws.{reaches-more, reaches-stop, reaches-end}
 use Rattle.templates.proofs.AnswerLaws.{settled-answer, answered-refusal}
 
@@ -198,11 +198,8 @@ unfolding optionOf
 nothing-none (At i) h = absurd (omega arith)
 nothing-none Nothing h = refl
 
-abbrev argument : ℕ → ℕ → Rec
-argument pos k = record { kind = 38; flags = 0; count = 0; pos = pos; word1 = k; word2 = 0 }
-
 module _ (text pattern params : List ℕ) (i : ℕ) (r : Rec) (f : Found) (is : r ≡ recAt pattern i) (stands : optionOf f ≡ parameterAt text pattern i params) (inside : i < slots pattern) where
-  pub made-copy : OneOf (1 ∷ []) (tagOf the-type f) → MadeAt text pattern i params (record { first = r; next = i + 1 })
+  made-copy : OneOf (1 ∷ []) (tagOf the-type f) → MadeAt text pattern i params r (i + 1)
   unfolding makingFrom making parameterAt
   made-copy o =
       record {
@@ -211,7 +208,7 @@ module _ (text pattern params : List ℕ) (i : ℕ) (r : Rec) (f : Found) (is : 
         near = omega arith;
       }
 
-  pub made-arg : (k n : ℕ) → f ≡ At k → n ≡ afterParameter (r .kind) i → MadeAt text pattern i params (record { first = argument (r .pos) k; next = n })
+  made-arg : (k n : ℕ) → f ≡ At k → n ≡ afterParameter (r .kind) i → MadeAt text pattern i params (argument (r .pos) k) n
   unfolding makingFrom making parameterAt optionOf afterParameter
   made-arg k n e a =
       let z : optionOf f ≡ some k = ap optionOf e in
@@ -222,16 +219,24 @@ module _ (text pattern params : List ℕ) (i : ℕ) (r : Rec) (f : Found) (is : 
         near = omega (arith, below-near (r .kind) i (isVar (r .kind)) refl);
       }
 
+  pub copy-appended : (room : ℕ) (a : List ℕ) (o : ℕ) (b : List ℕ) (y : ℕ) → OneOf (1 ∷ []) (tagOf the-type f) → Wrote room a o (r ∷ []) b y
+      → AppendedAt room a o text pattern i params b (record { written = y; next = i + 1 })
+  copy-appended room a o b y t w = let m = made-copy t in record { first = r; made = m; wrote = w; later = m .later }
+
+  pub arg-appended : (room : ℕ) (a : List ℕ) (o : ℕ) (b : List ℕ) (y k n : ℕ) (x : Rec) → f ≡ At k → n ≡ afterParameter (r .kind) i → x ≡ argument (r .pos) k → Wrote room a o (x ∷ []) b y
+      → AppendedAt room a o text pattern i params b (record { written = y; next = n })
+  arg-appended room a o b y k n x e q d w = let m = made-arg k n e q in record { first = argument (r .pos) k; made = m; wrote = rw d at w; later = m .later }
+
 -- ---- the scan
 
 module _ (room : ℕ) (a₀ a : List ℕ) (o : ℕ) (whole : List Rec) (text pattern params : List ℕ) (i : ℕ) where
-  pub make-turn : (b : List ℕ) (y : ℕ) (m : Made) → Wrote room a o (m .first ∷ []) b y → MadeAt text pattern i params m → Reaches room a₀ whole a o (makingFrom text pattern i params) → y ≤ room
-      → Reaches room a₀ whole b y (makingFrom text pattern (m .next) params)
-  make-turn b y m w v inv h = reaches-more room a₀ a o whole (makingFrom text pattern i params) inv b y (m .first ∷ []) (makingFrom text pattern (m .next) params) (v .made) w h
+  pub make-turn : (b : List ℕ) (m : Appended) → AppendedAt room a o text pattern i params b m → Reaches room a₀ whole a o (makingFrom text pattern i params) → m .written ≤ room
+      → Reaches room a₀ whole b (m .written) (makingFrom text pattern (m .next) params)
+  make-turn b m v inv h = reaches-more room a₀ a o whole (makingFrom text pattern i params) inv b (m .written) (v .first ∷ []) (makingFrom text pattern (m .next) params) (v .made .made) (v .wrote) h
 
-  pub make-stop : (b : List ℕ) (y : ℕ) (m : Made) → Wrote room a o (m .first ∷ []) b y → MadeAt text pattern i params m → Reaches room a₀ whole a o (makingFrom text pattern i params) → room < y
-      → Wrote room a₀ 0 whole b y
-  make-stop b y m w v inv h = reaches-stop room a₀ a o whole (makingFrom text pattern i params) inv b y (m .first ∷ []) (makingFrom text pattern (m .next) params) (v .made) w h
+  pub make-stop : (b : List ℕ) (m : Appended) → AppendedAt room a o text pattern i params b m → Reaches room a₀ whole a o (makingFrom text pattern i params) → room < m .written
+      → Wrote room a₀ 0 whole b (m .written)
+  make-stop b m v inv h = reaches-stop room a₀ a o whole (makingFrom text pattern i params) inv b (m .written) (v .first ∷ []) (makingFrom text pattern (m .next) params) (v .made .made) (v .wrote) h
 
   pub make-end : Reaches room a₀ whole a o (makingFrom text pattern i params) → slots pattern ≤ i → o ≤ room → Wrote room a₀ 0 whole a o
   unfolding makingFrom making

@@ -14,9 +14,10 @@ use Rattle.records.specs.Slots.{slots, recAt, recs}
 use Rattle.expansion.specs.Nodes.{isVar, isMacroArg}
 use Rattle.expansion.specs.Templates.{position}
 use Rattle.expansion.specs.Flat.{span, endOf, treeRecords, fill, wildcardNext, standsAt, making}
+use Rattle.templates.specs.Writing.{Wrote}
 use Rattle.templates.specs.declared.making.Found.{Found}
 use Rattle.templates.specs.declared.making.Found.the-variants.{At, Nothing}
-use Rattle.templates.specs.declared.making.Made.{Made}
+use Rattle.templates.specs.declared.making.Appended.{Appended}
 
 -- ---- making a template
 
@@ -54,11 +55,22 @@ makingFrom text pattern i params = making text (paramsOf params) (drop i (recs p
 unfoldable pub afterParameter : ℕ → ℕ → ℕ
 afterParameter kind i = i + 1 + pick (isVar kind) 1 2
 
--- the record made of that at slot i, and the slot where the scan goes on
-pub record MadeAt (text pattern : List ℕ) (i : ℕ) (params : List ℕ) (m : Made) : Type 0 where
-  pub made : makingFrom text pattern i params ≡ m .first ∷ makingFrom text pattern (m .next) params
+-- the MacroArg of the parameter k
+abbrev pub argument : ℕ → ℕ → Rec
+argument pos k = record { kind = 38; flags = 0; count = 0; pos = pos; word1 = k; word2 = 0 }
+
+-- first is the record made of that at slot i, and n the slot where the scan goes on
+pub record MadeAt (text pattern : List ℕ) (i : ℕ) (params : List ℕ) (first : Rec) (n : ℕ) : Type 0 where
+  pub made : makingFrom text pattern i params ≡ first ∷ makingFrom text pattern n params
+  pub later : i < n
+  pub near : n ≤ i + 3
+
+-- to the output a with o records that record is appended: the output is b
+pub record AppendedAt (room : ℕ) (a : List ℕ) (o : ℕ) (text pattern : List ℕ) (i : ℕ) (params b : List ℕ) (m : Appended) : Type 0 where
+  pub first : Rec
+  pub made : MadeAt text pattern i params first (m .next)
+  pub wrote : Wrote room a o (first ∷ []) b (m .written)
   pub later : i < m .next
-  pub near : m .next ≤ i + 3
 
 -- ---- substituting
 

@@ -15,7 +15,7 @@ ghost use Rattle.records.specs.Slots.{slots, recs};
 ghost use Rattle.expansion.specs.Templates.{position};
 ghost use Rattle.templates.specs.Answers.{MakeReady, Params, Answered, templateAnswer, templateRecords, space};
 ghost use Rattle.templates.specs.Writing.{Wrote};
-ghost use Rattle.templates.specs.Scans.{optionOf, paramsOf, namedAt, wildcardAt, parameterAt, makingFrom, afterParameter, MadeAt};
+ghost use Rattle.templates.specs.Scans.{optionOf, paramsOf, namedAt, wildcardAt, parameterAt, makingFrom, argument, afterParameter, AppendedAt};
 
 // The index of a parameter, or none.
 pub enum Found {
@@ -23,9 +23,9 @@ pub enum Found {
     Nothing,
 }
 
-// The record made of one, and the slot where the scan goes on.
-pub struct Made {
-    pub first: Rec,
+// How many records there are after one was appended, or room + 1; and the slot where the scan goes on.
+pub struct Appended {
+    pub written: usize,
     pub next: usize,
 }
 
@@ -98,31 +98,40 @@ fn after_parameter(kind: u8, i: usize) -> usize
     i + 3
 }
 
-// The record made of that at slot i.
-fn made_at(text: &[u8], pattern: &[u8], i: usize, params: &[u8]) -> Made
+// The MacroArg of the parameter k.
+fn argument(pos: u32, k: usize) -> Rec
+    ensures { λ r. ⌜ r ≡ argument pos k ⌝ }
+{
+    Rec {
+        kind: Head::PATTERN_MACRO_ARG,
+        flags: 0,
+        count: 0,
+        pos,
+        word1: k as u64,
+        word2: 0,
+    }
+}
+
+// Appends the record made of that at slot i: a copy of it, or a MacroArg.
+fn append_made(text: &[u8], pattern: &[u8], i: usize, params: &[u8], out: &mut [u8], o: usize, room: usize) -> Appended
     requires { ⌜ i < slots (now pattern) ⌝ }
     requires { ⌜ slots (now pattern) ≤ 65536 ⌝ }
     requires { ⌜ Params (now params) ⌝ }
-    ensures { λ m. ⌜ MadeAt (now (text .entry)) (now (pattern .entry)) i (now (params .entry)) m ⌝ }
+    requires { ⌜ room ≤ 65536 ⌝ }
+    ensures { λ m. ⌜ AppendedAt room (now (out .entry)) o (now (text .entry)) (now (pattern .entry)) i (now (params .entry)) (now (out .exit)) m ⌝ }
 {
-    let r = rec_at(pattern, i);
     let f = parameter_at(text, pattern, i, params);
+    let r = rec_at(pattern, i);
     let Found::At(k) = f else {
-        return Made {
-            first: r,
+        let written = append(out, o, r, room);
+        return Appended {
+            written,
             next: i + 1,
         };
     };
     let next = after_parameter(r.kind, i);
-    let a = Rec {
-        kind: Head::PATTERN_MACRO_ARG,
-        flags: 0,
-        count: 0,
-        pos: r.pos,
-        word1: k as u64,
-        word2: 0,
-    };
-    Made { first: a, next }
+    let written = append(out, o, argument(r.pos, k), room);
+    Appended { written, next }
 }
 
 // Appends the template to an empty output.
@@ -136,13 +145,11 @@ fn make(text: &[u8], pattern: &[u8], params: &[u8], out: &mut [u8], room: usize)
     let mut i = 0;
     let mut o = 0;
     while i < end {
-        let m = made_at(text, pattern, i, params);
-        let r = m.first;
-        let y = append(out, o, r, room);
-        if room < y {
-            return y;
+        let m = append_made(text, pattern, i, params, out, o, room);
+        if room < m.written {
+            return m.written;
         }
-        o = y;
+        o = m.written;
         i = m.next;
     }
     o

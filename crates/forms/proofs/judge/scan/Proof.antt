@@ -37,8 +37,11 @@ expected-requires c κs = search needs
 less-requires : tie.Need-less-requires Inv-loop μ-loop
 less-requires c κs = search needs
 
-is-good-requires : tie.Need-is-good-requires Inv-loop μ-loop
-is-good-requires c κs = search needs
+row-of-requires : tie.Need-row-of-requires Inv-loop μ-loop
+row-of-requires c κs = search needs
+
+may-stand-requires : tie.Need-may-stand-requires Inv-loop μ-loop
+may-stand-requires c κs = search needs
 
 same-length : tie.Need-same-length Inv-loop μ-loop
 same-length c = search needs
@@ -56,7 +59,7 @@ sub-if3 : tie.Need-sub-if3 Inv-loop μ-loop
 sub-if3 c = search needs
 
 add-if3-2 : tie.Need-add-if3-2 Inv-loop μ-loop
-add-if3-2 c = search needs
+add-if3-2 c = search (needs, (c .before .before .before .before .before .before .before .before .before .before .loop .inv) .1, (c .before .before .before .before .before .before .before .before .before .before .before .before .before .slots .ensures), (c .before .before .before .before .before .before .before .before .before .before .before .before .before .before .before .before .pre) .0, (c .before .before .before .before .before .before .before .before .before .before .loop .inv) .2, (c .before .before .before .before .before .less .ensures))
 
 same-length-2 : tie.Need-same-length-2 Inv-loop μ-loop
 same-length-2 c = search needs
@@ -64,8 +67,8 @@ same-length-2 c = search needs
 returns-3 : tie.Need-returns-3 Inv-loop μ-loop
 returns-3 c = search scan-short
 
-push-record-requires : tie.Need-push-record-requires Inv-loop μ-loop
-push-record-requires c κs = (search needs, search needs, search scan-enough)
+push-children-requires : tie.Need-push-children-requires Inv-loop μ-loop
+push-children-requires c κs = (search (needs, (c .before .before .before .before .before .before .before .before .before .before .before .before .loop .inv) .2, (c .before .before .before .before .before .before .before .before .before .before .before .before .before .before .before .slots .ensures), (c .before .before .before .before .before .before .before .before .before .before .before .before .before .before .before .before .before .before .pre) .0, (c .before .before .before .before .before .before .before .before .before .before .before .before .before .before .before .before .before .before .pre) .1, (c .before .if3 .left)), search scan-enough, search needs)
 
 add-i : tie.Need-add-i Inv-loop μ-loop
 add-i c = search needs
@@ -95,7 +98,8 @@ scan-spec =
     rec-at-requires
     expected-requires
     less-requires
-    is-good-requires
+    row-of-requires
+    may-stand-requires
     same-length
     returns-2
     cast-count
@@ -104,7 +108,7 @@ scan-spec =
     add-if3-2
     same-length-2
     returns-3
-    push-record-requires
+    push-children-requires
     add-i
     loop-less
     loop-again

@@ -18,11 +18,8 @@ abbrev μ-loop : tie.MeasureT-loop
 loop-holds : tie.Need-loop-holds Inv-loop μ-loop
 loop-holds c = (search reaches-start, search needs, search needs)
 
-made-at-requires : tie.Need-made-at-requires Inv-loop μ-loop
-made-at-requires c κs = search needs
-
-append-requires : tie.Need-append-requires Inv-loop μ-loop
-append-requires c κs = search needs
+append-made-requires : tie.Need-append-made-requires Inv-loop μ-loop
+append-made-requires c κs = search needs
 
 same-length : tie.Need-same-length Inv-loop μ-loop
 same-length c = search needs
@@ -49,8 +46,7 @@ make-spec =
     Inv-loop
     μ-loop
     loop-holds
-    made-at-requires
-    append-requires
+    append-made-requires
     same-length
     returns
     loop-less
