@@ -1,35 +1,83 @@
 -- Laws of good tokens, one for each way through the code that judges them. Assumes nothing.
-use Prim.Native.Nat.{ℕ, zero, suc, _+_, _-_, _*_, _/_, _%_, _<_, _≤_}
+use Prim.Native.Nat.{ℕ, zero, suc, _+_, _-_, _*_, _/_, _%_, _<_, _≤_, max}
 use native.Mathlib.Omega.{arith}
 use native.Mathlib.Numerals.{add-one}
 use mathlib.Core.Path.{_≡_, refl, sym, ap, _∙_}
 use mathlib.Core.List.{List, [], _∷_}
-use mathlib.Core.Bool.{Bool, true, false}
-use lib.ListN.{length, getD, drop, drop-of-length-le}
+use mathlib.Core.Bool.{Bool, true, false, false≢true}
+use lib.ListN.{length, getD, take, drop, drop-of-length-le}
 use lib.Seq.{drop-cons}
 use lib.Dec.{ltb, leb, eqb}
-use borrow.Author.Tests.{lt-ltb, le-ltb, le-leb, lt-leb, eq-eqb, ne-eqb}
+use borrow.Author.Tests.{lt-ltb, le-ltb, leb-true, leb-false, eq-eqb, ne-eqb}
+use Rattle.trees.specs.Choice.{pick}
 use Rattle.trees.specs.Names.{spelled}
 use Rattle.words.specs.Words.{wordAt}
 use Rattle.tokens.specs.Token.{tokenCount}
 use Rattle.tokens.specs.Lent.{ascii, goodSymbol, goodValue, goodWords, goodToken, badFrom, firstBad}
 
-module _ (s : List ℕ) (i : ℕ) (q : ascii s ≡ ascii (drop i s)) where
-  pub ascii-on : i < length s → getD s i 0 < 128 → ascii s ≡ ascii (drop (i + 1) s)
-  unfolding ascii
-  ascii-on h e = q ∙ rw (add-one, drop-cons s i 0 h, lt-leb 128 (getD s i 0) e)
+-- two bytes are below 128 where the greater one is
+both-below : (h c : ℕ) (x : Bool) → pick (leb 128 h) false (pick (leb 128 c) false x) ≡ pick (leb 128 (max h c)) false x
+both-below h c x = go (leb 128 h) (leb 128 c) (leb 128 (max h c)) refl refl refl
+  where
+    go : (a b d : Bool) → leb 128 h ≡ a → leb 128 c ≡ b → leb 128 (max h c) ≡ d → pick a false (pick b false x) ≡ pick d false x
+    go true b true p q r = refl
+    go true b false p q r = absurd (omega (arith, leb-true 128 h p, leb-false 128 (max h c) r))
+    go false true true p q r = refl
+    go false true false p q r = absurd (omega (arith, leb-true 128 c q, leb-false 128 (max h c) r))
+    go false false true p q r = absurd (omega (arith, leb-false 128 h p, leb-false 128 c q, leb-true 128 (max h c) r))
+    go false false false p q r = refl
 
-  pub ascii-bad : i < length s → 128 ≤ getD s i 0 → false ≡ ascii s
-  unfolding ascii
-  ascii-bad h e = sym (q ∙ rw (drop-cons s i 0 h, le-leb 128 (getD s i 0) e))
+last : (h : ℕ) → pick (leb 128 h) false true ≡ ltb h 128
+last h = go (leb 128 h) refl
+  where
+    go : (a : Bool) → leb 128 h ≡ a → pick a false true ≡ ltb h 128
+    go true p = sym (le-ltb h 128 (leb-true 128 h p))
+    go false p = sym (lt-ltb h 128 (leb-false 128 h p))
 
-  pub ascii-end : length s ≤ i → true ≡ ascii s
+-- the highest byte so far tells of all before i
+abbrev pub asciiFrom : ℕ → List ℕ → Bool
+asciiFrom h s = pick (leb 128 h) false (ascii s)
+
+pub ascii-start : (s : List ℕ) → ascii s ≡ asciiFrom 0 (drop 0 s)
+ascii-start s = refl
+
+module _ (s : List ℕ) (i h : ℕ) (q : ascii s ≡ asciiFrom h (drop i s)) where
+  pub ascii-on : (g : ℕ) → i < length s → g ≡ max h (getD s i 0) → ascii s ≡ asciiFrom g (drop (i + 1) s)
   unfolding ascii
-  ascii-end h = sym (q ∙ rw (drop-of-length-le s h))
+  ascii-on g l e = q ∙ rw (add-one, drop-cons s i 0 l, e) (both-below h (getD s i 0) (ascii (drop (suc i) s)))
+
+  pub ascii-end : length s ≤ i → ltb h 128 ≡ ascii s
+  unfolding ascii
+  ascii-end l = sym (q ∙ rw (drop-of-length-le s l) (last h))
 
 pub symbol-outside : (text : List ℕ) (range : ℕ) → length text < range / 4294967296 + range % 4294967296 → false ≡ goodSymbol text range
 unfolding goodSymbol
 symbol-outside text range h = rw (lt-ltb (length text) (range / 4294967296 + range % 4294967296) h)
+
+-- a part of a text below 128 is below 128
+ascii-cons : (c : ℕ) (cs : List ℕ) → ascii (c ∷ cs) ≡ true → (leb 128 c ≡ false) × (ascii cs ≡ true)
+unfolding ascii
+ascii-cons c cs e = go (leb 128 c) refl e
+  where
+    go : (a : Bool) → leb 128 c ≡ a → pick a false (ascii cs) ≡ true → (leb 128 c ≡ false) × (ascii cs ≡ true)
+    go true p q = absurd (false≢true q)
+    go false p q = (p, q)
+
+ascii-drop : (n : ℕ) (s : List ℕ) → ascii s ≡ true → ascii (drop n s) ≡ true
+ascii-drop zero s e = e
+ascii-drop (suc n) [] e = e
+ascii-drop (suc n) (c ∷ cs) e = ascii-drop n cs (ascii-cons c cs e .1)
+
+ascii-take : (n : ℕ) (s : List ℕ) → ascii s ≡ true → ascii (take n s) ≡ true
+unfolding ascii
+ascii-take zero s e = refl
+ascii-take (suc n) [] e = refl
+ascii-take (suc n) (c ∷ cs) e = let p = ascii-cons c cs e in rw (p .0) (ascii-take n cs (p .1))
+
+pub symbol-plain : (text : List ℕ) (range : ℕ) (b : Bool) → range / 4294967296 + range % 4294967296 ≤ length text → b ≡ ascii text → b ≡ true → true ≡ goodSymbol text range
+unfolding goodSymbol spelled
+symbol-plain text range b h e p =
+    sym (rw (le-ltb (length text) (range / 4294967296 + range % 4294967296) h) (ascii-take (range % 4294967296) (drop (range / 4294967296) text) (ascii-drop (range / 4294967296) text (sym e ∙ p))))
 
 pub symbol-inside : (text p : List ℕ) (range : ℕ) (r : Bool) → range / 4294967296 + range % 4294967296 ≤ length text → p ≡ spelled text range → r ≡ ascii p → r ≡ goodSymbol text range
 unfolding goodSymbol

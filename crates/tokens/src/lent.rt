@@ -2,34 +2,46 @@
 use crate::names::spelling;
 use words::word;
 ghost use mathlib.Core.Path.{_≡_};
-ghost use Prim.Native.Nat.{ℕ, _+_, _*_, _≤_, _<_};
+ghost use Prim.Native.Nat.{ℕ, _+_, _*_, _≤_, _<_, max};
 ghost use lib.ListN.{length};
 ghost use Rattle.tokens.specs.Token.{tokenCount};
 ghost use Rattle.tokens.specs.Lent.{ascii, goodSymbol, goodValue, goodWords, goodToken, firstBad};
 
+fn greater(a: u8, b: u8) -> u8
+    ensures { λ r. ⌜ r ≡ max a b ⌝ }
+{
+    if a < b { b } else { a }
+}
+
+// Whether all bytes are below 128. It goes on to the end in any case, so that the compiler takes many bytes at once.
 fn is_ascii(s: &[u8]) -> bool
     ensures { λ r. ⌜ r ≡ ascii (now (s .entry)) ⌝ }
 {
+    let mut highest = 0;
     let mut i = 0;
     while i < s.len() {
-        if 128 <= s[i] {
-            return false;
-        }
+        highest = greater(highest, s[i]);
         i += 1;
     }
-    true
+    highest < 128
 }
 
-fn is_good_symbol(text: &[u8], range: u64) -> bool
+// A symbol's bytes are looked at only where the whole text is not below 128.
+fn is_good_symbol(text: &[u8], plain: bool, range: u64) -> bool
+    requires { ⌜ plain ≡ ascii (now text) ⌝ }
     ensures { λ r. ⌜ r ≡ goodSymbol (now (text .entry)) range ⌝ }
 {
     if (text.len() as u64) < range / 4294967296 + range % 4294967296 {
         return false;
     }
+    if plain {
+        return true;
+    }
     is_ascii(spelling(text, range))
 }
 
-fn is_good_value(text: &[u8], kind: u64, b: u64, c: u64) -> bool
+fn is_good_value(text: &[u8], plain: bool, kind: u64, b: u64, c: u64) -> bool
+    requires { ⌜ plain ≡ ascii (now text) ⌝ }
     ensures { λ r. ⌜ r ≡ goodValue (now (text .entry)) kind b c ⌝ }
 {
     if kind == 4 {
@@ -39,12 +51,13 @@ fn is_good_value(text: &[u8], kind: u64, b: u64, c: u64) -> bool
         return false;
     }
     if kind == 3 {
-        return is_good_symbol(text, b);
+        return is_good_symbol(text, plain, b);
     }
     b == 0
 }
 
-fn is_good_words(text: &[u8], end: u32, a: u64, b: u64, c: u64) -> bool
+fn is_good_words(text: &[u8], plain: bool, end: u32, a: u64, b: u64, c: u64) -> bool
+    requires { ⌜ plain ≡ ascii (now text) ⌝ }
     ensures { λ r. ⌜ r ≡ goodWords (now (text .entry)) end a b c ⌝ }
 {
     let kind = a / 1152921504606846976;
@@ -60,10 +73,11 @@ fn is_good_words(text: &[u8], end: u32, a: u64, b: u64, c: u64) -> bool
     if (end as u64) < a % 4294967296 {
         return false;
     }
-    is_good_value(text, kind, b, c)
+    is_good_value(text, plain, kind, b, c)
 }
 
-fn is_good(tokens: &[u8], text: &[u8], end: u32, at: usize) -> bool
+fn is_good(tokens: &[u8], text: &[u8], plain: bool, end: u32, at: usize) -> bool
+    requires { ⌜ plain ≡ ascii (now text) ⌝ }
     requires { ⌜ at < tokenCount (now tokens) ⌝ }
     ensures { λ r. ⌜ r ≡ goodToken (now (tokens .entry)) (now (text .entry)) end at ⌝ }
 {
@@ -71,7 +85,7 @@ fn is_good(tokens: &[u8], text: &[u8], end: u32, at: usize) -> bool
     let a = word(tokens, k);
     let b = word(tokens, k + 8);
     let c = word(tokens, k + 16);
-    is_good_words(text, end, a, b, c)
+    is_good_words(text, plain, end, a, b, c)
 }
 
 // The index of the first token that is not good, or the number of tokens.
@@ -79,9 +93,10 @@ pub fn first_bad(tokens: &[u8], text: &[u8], end: u32) -> usize
     ensures { λ r. ⌜ r ≡ firstBad (now (tokens .entry)) (now (text .entry)) end ⌝ }
 {
     let count = tokens.len() / 24;
+    let plain = is_ascii(text);
     let mut i = 0;
     while i < count {
-        if !is_good(tokens, text, end, i) {
+        if !is_good(tokens, text, plain, end, i) {
             return i;
         }
         i += 1;

@@ -9,10 +9,13 @@ use Rattle.tokens.proofs.lent.first_bad.Statement.{statement}
 use Rattle.tokens.proofs.lent.first_bad.Tie as tie
 
 abbrev Inv-loop : tie.InvT-loop
-Inv-loop tokens text end count i₀ i = firstBad tokens text end ≡ badFrom tokens text end (tokenCount tokens - i) i
+Inv-loop tokens text end count plain i₀ i = firstBad tokens text end ≡ badFrom tokens text end (tokenCount tokens - i) i
 
 abbrev μ-loop : tie.MeasureT-loop
-μ-loop tokens text end count i₀ i = tokenCount tokens - i
+μ-loop tokens text end count plain i₀ i = tokenCount tokens - i
+
+is-ascii-requires : tie.Need-is-ascii-requires Inv-loop μ-loop
+is-ascii-requires c κs = search needs
 
 loop-holds : tie.Need-loop-holds Inv-loop μ-loop
 loop-holds c = search bad-start
@@ -41,6 +44,7 @@ first-bad-spec =
     (tie.spec
     Inv-loop
     μ-loop
+    is-ascii-requires
     loop-holds
     is-good-requires
     returns
