@@ -13,7 +13,7 @@ use Rattle.trees.specs.Choice.{pick}
 use Rattle.trees.specs.Names.{spelled}
 use Rattle.words.specs.Words.{wordAt}
 use Rattle.tokens.specs.Token.{tokenCount}
-use Rattle.tokens.specs.Lent.{ascii, goodSymbol, goodValue, goodWords, goodToken, badFrom, firstBad}
+use Rattle.tokens.specs.Lent.{ascii, goodSymbol, reach, goodValue, goodWords, goodToken, badFrom, firstBad}
 
 -- two bytes are below 128 where the greater one is
 both-below : (h c : ℕ) (x : Bool) → pick (leb 128 h) false (pick (leb 128 c) false x) ≡ pick (leb 128 (max h c)) false x
@@ -50,7 +50,7 @@ module _ (s : List ℕ) (i h : ℕ) (q : ascii s ≡ asciiFrom h (drop i s)) whe
   unfolding ascii
   ascii-end l = sym (q ∙ rw (drop-of-length-le s l) (last h))
 
-pub symbol-outside : (text : List ℕ) (range : ℕ) → length text < range / 4294967296 + range % 4294967296 → false ≡ goodSymbol text range
+symbol-outside : (text : List ℕ) (range : ℕ) → length text < range / 4294967296 + range % 4294967296 → false ≡ goodSymbol text range
 unfolding goodSymbol
 symbol-outside text range h = rw (lt-ltb (length text) (range / 4294967296 + range % 4294967296) h)
 
@@ -74,14 +74,22 @@ ascii-take zero s e = refl
 ascii-take (suc n) [] e = refl
 ascii-take (suc n) (c ∷ cs) e = let p = ascii-cons c cs e in rw (p .0) (ascii-take n cs (p .1))
 
-pub symbol-plain : (text : List ℕ) (range : ℕ) (b : Bool) → range / 4294967296 + range % 4294967296 ≤ length text → b ≡ ascii text → b ≡ true → true ≡ goodSymbol text range
+symbol-plain : (text : List ℕ) (range : ℕ) (b : Bool) → range / 4294967296 + range % 4294967296 ≤ length text → b ≡ ascii text → b ≡ true → true ≡ goodSymbol text range
 unfolding goodSymbol spelled
 symbol-plain text range b h e p =
     sym (rw (le-ltb (length text) (range / 4294967296 + range % 4294967296) h) (ascii-take (range % 4294967296) (drop (range / 4294967296) text) (ascii-drop (range / 4294967296) text (sym e ∙ p))))
 
-pub symbol-inside : (text p : List ℕ) (range : ℕ) (r : Bool) → range / 4294967296 + range % 4294967296 ≤ length text → p ≡ spelled text range → r ≡ ascii p → r ≡ goodSymbol text range
+symbol-inside : (text p : List ℕ) (range : ℕ) (r : Bool) → range / 4294967296 + range % 4294967296 ≤ length text → p ≡ spelled text range → r ≡ ascii p → r ≡ goodSymbol text range
 unfolding goodSymbol
 symbol-inside text p range r h e f = f ∙ rw (e, le-ltb (length text) (range / 4294967296 + range % 4294967296) h)
+
+pub reach-symbol : (text : List ℕ) (k : ℕ) → k ≡ 3 → length text ≡ reach text k
+unfolding reach
+reach-symbol text k e = rw (eq-eqb k 3 e)
+
+pub reach-other : (text : List ℕ) (k : ℕ) → (k ≡ 3 → ⊥) → 0 ≡ reach text k
+unfolding reach
+reach-other text k e = rw (ne-eqb k 3 e)
 
 module _ (text : List ℕ) (k b c : ℕ) where
   pub value-int : k ≡ 4 → true ≡ goodValue text k b c
@@ -92,13 +100,39 @@ module _ (text : List ℕ) (k b c : ℕ) where
   unfolding goodValue
   value-spare e f = rw (ne-eqb k 4 e, ne-eqb c 0 f)
 
-  pub value-symbol : (r : Bool) → (k ≡ 4 → ⊥) → c ≡ 0 → k ≡ 3 → r ≡ goodSymbol text b → r ≡ goodValue text k b c
+  value-symbol : (r : Bool) → (k ≡ 4 → ⊥) → c ≡ 0 → eqb k 3 ≡ true → r ≡ goodSymbol text b → r ≡ goodValue text k b c
   unfolding goodValue
-  value-symbol r e f g h = h ∙ rw (ne-eqb k 4 e, eq-eqb c 0 f, eq-eqb k 3 g)
+  value-symbol r e f g h = h ∙ rw (ne-eqb k 4 e, eq-eqb c 0 f, g)
 
-  pub value-none : (k ≡ 4 → ⊥) → c ≡ 0 → (k ≡ 3 → ⊥) → eqb b 0 ≡ goodValue text k b c
+  value-none : (k ≡ 4 → ⊥) → c ≡ 0 → eqb k 3 ≡ false → eqb b 0 ≡ goodValue text k b c
   unfolding goodValue
-  value-none e f g = rw (ne-eqb k 4 e, eq-eqb c 0 f, ne-eqb k 3 g)
+  value-none e f g = rw (ne-eqb k 4 e, eq-eqb c 0 f, g)
+
+  pub value-outside : (g : ℕ) → (k ≡ 4 → ⊥) → c ≡ 0 → g ≡ reach text k → g < b / 4294967296 + b % 4294967296 → false ≡ goodValue text k b c
+  unfolding reach
+  value-outside g e f r l = go (eqb k 3) refl r
+    where
+      go : (x : Bool) → eqb k 3 ≡ x → g ≡ pick x (length text) 0 → false ≡ goodValue text k b c
+      go true p q = value-symbol false e f p (symbol-outside text b (omega arith))
+      go false p q = sym (ne-eqb b 0 (λ z. omega arith)) ∙ value-none e f p
+
+  pub value-plain : (g : ℕ) (y : Bool) → (k ≡ 4 → ⊥) → c ≡ 0 → g ≡ reach text k → b / 4294967296 + b % 4294967296 ≤ g → y ≡ ascii text → y ≡ true → true ≡ goodValue text k b c
+  unfolding reach
+  value-plain g y e f r l d t = go (eqb k 3) refl r
+    where
+      go : (x : Bool) → eqb k 3 ≡ x → g ≡ pick x (length text) 0 → true ≡ goodValue text k b c
+      go true p q = value-symbol true e f p (symbol-plain text b y (omega arith) d t)
+      go false p q = sym (eq-eqb b 0 (omega arith)) ∙ value-none e f p
+
+  pub value-inside : (g : ℕ) (w : List ℕ) (y : Bool) → (k ≡ 4 → ⊥) → c ≡ 0 → g ≡ reach text k → b / 4294967296 + b % 4294967296 ≤ g → w ≡ spelled text b → y ≡ ascii w → y ≡ goodValue text k b c
+  unfolding reach spelled ascii
+  value-inside g w y e f r l d t = go (eqb k 3) refl r
+    where
+      go : (x : Bool) → eqb k 3 ≡ x → g ≡ pick x (length text) 0 → y ≡ goodValue text k b c
+      go true p q = value-symbol y e f p (symbol-inside text w b y (omega arith) d t)
+      go false p q =
+          let z : b ≡ 0 = omega arith in
+          t ∙ ap ascii (d ∙ ap (spelled text) z) ∙ sym (eq-eqb b 0 z) ∙ value-none e f p
 
 module _ (text : List ℕ) (end a b c : ℕ) where
   pub words-none : a / 1152921504606846976 ≡ 0 → false ≡ goodWords text end a b c

@@ -16,6 +16,10 @@ ascii (c ∷ cs) = pick (leb 128 c) false (ascii cs)
 unfoldable pub goodSymbol : List ℕ → ℕ → Bool
 goodSymbol text range = pick (ltb (length text) (range / 4294967296 + range % 4294967296)) false (ascii (spelled text range))
 
+-- how far a range of word 1 may reach: a symbol's to the end of the text, the others have none
+unfoldable pub reach : List ℕ → ℕ → ℕ
+reach text kind = pick (eqb kind 3) (length text) 0
+
 -- words 1 and 2, by the kind: an integer's are free, a symbol's word 2 and both of the others are zero
 unfoldable pub goodValue : List ℕ → ℕ → ℕ → ℕ → Bool
 goodValue text kind b c =

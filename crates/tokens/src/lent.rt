@@ -5,7 +5,7 @@ ghost use mathlib.Core.Path.{_≡_};
 ghost use Prim.Native.Nat.{ℕ, _+_, _*_, _≤_, _<_, max};
 ghost use lib.ListN.{length};
 ghost use Rattle.tokens.specs.Token.{tokenCount};
-ghost use Rattle.tokens.specs.Lent.{ascii, goodSymbol, goodValue, goodWords, goodToken, firstBad};
+ghost use Rattle.tokens.specs.Lent.{ascii, reach, goodValue, goodWords, goodToken, firstBad};
 
 fn greater(a: u8, b: u8) -> u8
     ensures { λ r. ⌜ r ≡ max a b ⌝ }
@@ -26,20 +26,14 @@ fn is_ascii(s: &[u8]) -> bool
     highest < 128
 }
 
-// A symbol's bytes are looked at only where the whole text is not below 128.
-fn is_good_symbol(text: &[u8], plain: bool, range: u64) -> bool
-    requires { ⌜ plain ≡ ascii (now text) ⌝ }
-    ensures { λ r. ⌜ r ≡ goodSymbol (now (text .entry)) range ⌝ }
+// How far a token's range may reach: a symbol's to the end of the text, the others have none.
+fn reach(text: &[u8], kind: u64) -> u64
+    ensures { λ r. ⌜ r ≡ reach (now (text .entry)) kind ⌝ }
 {
-    if (text.len() as u64) < range / 4294967296 + range % 4294967296 {
-        return false;
-    }
-    if plain {
-        return true;
-    }
-    is_ascii(spelling(text, range))
+    if kind == 3 { text.len() as u64 } else { 0 }
 }
 
+// A symbol's bytes are looked at only where the whole text is not below 128.
 fn is_good_value(text: &[u8], plain: bool, kind: u64, b: u64, c: u64) -> bool
     requires { ⌜ plain ≡ ascii (now text) ⌝ }
     ensures { λ r. ⌜ r ≡ goodValue (now (text .entry)) kind b c ⌝ }
@@ -50,10 +44,13 @@ fn is_good_value(text: &[u8], plain: bool, kind: u64, b: u64, c: u64) -> bool
     if c != 0 {
         return false;
     }
-    if kind == 3 {
-        return is_good_symbol(text, plain, b);
+    if reach(text, kind) < b / 4294967296 + b % 4294967296 {
+        return false;
     }
-    b == 0
+    if plain {
+        return true;
+    }
+    is_ascii(spelling(text, b))
 }
 
 fn is_good_words(text: &[u8], plain: bool, end: u32, a: u64, b: u64, c: u64) -> bool
