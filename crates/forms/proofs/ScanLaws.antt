@@ -1,11 +1,10 @@
 -- The ways through the recognizer's loop, in the code's terms. Assumes nothing.
-use mathlib.Core.Path.{_≡_, ap, sym, _∙_}
+use mathlib.Core.Path.{_≡_, refl, ap, ap₂, sym, _∙_}
 use mathlib.Core.Bool.{Bool, true, false, not}
 use mathlib.Core.List.{List, [], _∷_, _++_}
-use Prim.Native.Nat.{ℕ, _+_, _-_, _≤_, _<_}
+use Prim.Native.Nat.{ℕ, zero, suc, _+_, _-_, _≤_, _<_}
 use native.Mathlib.Omega.{arith}
-use lib.ListN.{length, length-append, set, length-set}
-use lib.Seq.{getD-set-same}
+use lib.ListN.{length, length-append, replicate, getD-replicate}
 use borrow.Author.Tests.{not-true, not-false}
 use Rattle.trees.specs.declared.Rec.{Rec}
 use Rattle.records.specs.Slots.{slots, recAt, recs}
@@ -71,11 +70,11 @@ scan-end t base n list stack top i f inv e h l =
 pub scan-enough : (t s : ℕ) (r : Rec) (w : Row) (b : Bool) → b ≡ stands t s w r → not b ≡ false → singles w ≤ r .count
 scan-enough t s r w b e f = enough t s w r (sym e ∙ not-false b f)
 
--- one sort on the stack, and none
-pub one-pending : (t s : ℕ) (rs : List Rec) (stack : List ℕ) (y : Bool) → 65536 ≤ length (set stack 0 s) → y ≡ fits t 0 (pending (set stack 0 s) 1) rs → y ≡ fits t 0 (s ∷ []) rs
+-- a stack of nothing but patterns
+pending-same : (s n m : ℕ) → n ≤ m → pending (replicate m s) n ≡ replicate n s
 unfolding pending
-one-pending t s rs stack y h e = e ∙ rw (getD-set-same stack 0 s 0 (omega (arith, length-set stack 0 s)))
+pending-same s zero m h = refl
+pending-same s (suc n) m h = ap₂ _∷_ (getD-replicate m n s 0 (omega arith)) (pending-same s n m (omega arith))
 
-pub none-pending : (t b : ℕ) (rs : List Rec) (stack : List ℕ) (y : Bool) → y ≡ fits t b (pending stack 0) rs → y ≡ fits t b [] rs
-unfolding pending
-none-pending t b rs stack y e = e
+pub same-pending : (t b s n m : ℕ) (rs : List Rec) (y : Bool) → n ≤ m → y ≡ fits t b (pending (replicate m s) n) rs → y ≡ fits t b (replicate n s) rs
+same-pending t b s n m rs y h e = e ∙ ap (λ (ss : List ℕ). fits t b ss rs) (pending-same s n m h)

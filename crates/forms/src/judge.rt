@@ -7,7 +7,7 @@ use records::slots;
 use trees::Rec;
 ghost use mathlib.Core.Path.{_≡_};
 ghost use Prim.Native.Nat.{_+_, _-_, _≤_, _<_};
-ghost use lib.ListN.{length};
+ghost use lib.ListN.{length, replicate};
 ghost use lib.Dec.{eqb};
 ghost use Rattle.records.specs.Slots.{slots, recs};
 ghost use Rattle.forms.specs.Kinds.{pattern, definition, name};
@@ -179,7 +179,7 @@ fn less(n: usize) -> usize
 
 // Whether the records are trees of the sorts on the stack and then any number of the sort `base`, none where that is 0.
 fn scan(list: &[u8], t: usize, base: u32, stack: &mut [u32], at: usize) -> bool
-    requires { ⌜ (slots (now list) ≤ 65536) × (65536 ≤ length (now stack)) × (at ≤ length (now stack)) ⌝ }
+    requires { ⌜ (slots (now list) ≤ 65536) × (slots (now list) ≤ length (now stack)) × (at ≤ length (now stack)) ⌝ }
     ensures { λ y. ⌜ y ≡ fits t base (pending (now (stack .entry)) at) (recs (now (list .entry))) ⌝ }
 {
     let n = slots(list);
@@ -207,35 +207,63 @@ fn scan(list: &[u8], t: usize, base: u32, stack: &mut [u32], at: usize) -> bool
     true
 }
 
+// The same for n patterns and then any number of the sort `base`, with a stack for few records.
+fn scan_few(list: &[u8], t: usize, base: u32, n: usize) -> bool
+    requires { ⌜ (slots (now list) ≤ 4096) × (n ≤ 4096) ⌝ }
+    ensures { λ y. ⌜ y ≡ fits t base (replicate n pattern) (recs (now (list .entry))) ⌝ }
+{
+    let mut stack = [1u32; 4096];
+    scan(list, t, base, &mut stack, n)
+}
+
+// With a stack for any list.
+fn scan_many(list: &[u8], t: usize, base: u32, n: usize) -> bool
+    requires { ⌜ (slots (now list) ≤ 65536) × (n ≤ 65536) ⌝ }
+    ensures { λ y. ⌜ y ≡ fits t base (replicate n pattern) (recs (now (list .entry))) ⌝ }
+{
+    let mut stack = [1u32; 65536];
+    scan(list, t, base, &mut stack, n)
+}
+
+// A small stack is filled in less time than a large one.
+fn scan_any(list: &[u8], t: usize, base: u32, n: usize) -> bool
+    requires { ⌜ (slots (now list) ≤ 65536) × (n ≤ 1) ⌝ }
+    ensures { λ y. ⌜ y ≡ fits t base (replicate n pattern) (recs (now (list .entry))) ⌝ }
+{
+    if list.len() / 24 <= 4096 {
+        return scan_few(list, t, base, n);
+    }
+    scan_many(list, t, base, n)
+}
+
 // Whether the list is one pattern, where the text has t bytes.
-pub fn one_pattern(list: &[u8], t: usize, stack: &mut [u32; 65536]) -> bool
+pub fn one_pattern(list: &[u8], t: usize) -> bool
     requires { ⌜ slots (now list) ≤ 65536 ⌝ }
     ensures { λ y. ⌜ y ≡ isOne t pattern (recs (now (list .entry))) ⌝ }
 {
-    stack[0] = 1;
-    scan(list, t, 0, stack, 1)
+    scan_any(list, t, 0, 1)
 }
 
 // Whether the list is any number of patterns.
-pub fn many_patterns(list: &[u8], t: usize, stack: &mut [u32; 65536]) -> bool
+pub fn many_patterns(list: &[u8], t: usize) -> bool
     requires { ⌜ slots (now list) ≤ 65536 ⌝ }
     ensures { λ y. ⌜ y ≡ isMany t pattern (recs (now (list .entry))) ⌝ }
 {
-    scan(list, t, 1, stack, 0)
+    scan_any(list, t, 1, 0)
 }
 
 // Whether the list is definitions.
-pub fn definitions(list: &[u8], t: usize, stack: &mut [u32; 65536]) -> bool
+pub fn definitions(list: &[u8], t: usize) -> bool
     requires { ⌜ slots (now list) ≤ 65536 ⌝ }
     ensures { λ y. ⌜ y ≡ isMany t definition (recs (now (list .entry))) ⌝ }
 {
-    scan(list, t, 5, stack, 0)
+    scan_any(list, t, 5, 0)
 }
 
 // Whether the list is Idents.
-pub fn idents(list: &[u8], t: usize, stack: &mut [u32; 65536]) -> bool
+pub fn idents(list: &[u8], t: usize) -> bool
     requires { ⌜ slots (now list) ≤ 65536 ⌝ }
     ensures { λ y. ⌜ y ≡ isMany t name (recs (now (list .entry))) ⌝ }
 {
-    scan(list, t, 4, stack, 0)
+    scan_any(list, t, 4, 0)
 }

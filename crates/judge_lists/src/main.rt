@@ -17,19 +17,19 @@ ghost use Prim.Native.Nat.{_+_, _*_, _≤_, _<_};
 ghost use lib.ListN.{length};
 ghost use Rattle.records.specs.Slots.{slots};
 
-fn judge(how: u8, list: &[u8], stack: &mut [u32; 65536]) -> bool
+fn judge(how: u8, list: &[u8]) -> bool
     requires { ⌜ slots (now list) ≤ 65536 ⌝ }
 {
     if how == 0 {
-        return one_pattern(list, 64, stack);
+        return one_pattern(list, 64);
     }
     if how == 1 {
-        return many_patterns(list, 64, stack);
+        return many_patterns(list, 64);
     }
     if how == 2 {
-        return definitions(list, 64, stack);
+        return definitions(list, 64);
     }
-    idents(list, 64, stack)
+    idents(list, 64)
 }
 
 // The record with one of its six fields changed; the field 6 is none.
@@ -72,19 +72,19 @@ fn one_if(b: bool) -> u64
 }
 
 // 1 where the list is accepted with a field of record i damaged, else 0. The list is left as it was.
-fn try_record(list: &mut [u8], i: usize, field: usize, how: u8, stack: &mut [u32; 65536]) -> u64
+fn try_record(list: &mut [u8], i: usize, field: usize, how: u8) -> u64
     requires { ⌜ (i < slots (now list)) × (slots (now list) ≤ 65536) ⌝ }
     ensures { λ r. ⌜ r ≤ 1 ⌝ }
 {
     let r = rec_at(list, i);
     put(list, i, damaged(r, field));
-    let accepted = judge(how, list, stack);
+    let accepted = judge(how, list);
     put(list, i, r);
     one_if(accepted)
 }
 
 // How many of the lists with that field damaged in one record are accepted.
-fn try_list(list: &mut [u8], field: usize, how: u8, stack: &mut [u32; 65536]) -> u64
+fn try_list(list: &mut [u8], field: usize, how: u8) -> u64
     requires { ⌜ slots (now list) ≤ 65536 ⌝ }
     ensures { λ r. ⌜ r ≤ 65536 ⌝ }
 {
@@ -92,7 +92,7 @@ fn try_list(list: &mut [u8], field: usize, how: u8, stack: &mut [u32; 65536]) ->
     let mut accepted = 0;
     let mut i = 0;
     while i < n {
-        accepted += try_record(list, i, field, how, stack);
+        accepted += try_record(list, i, field, how);
         i += 1;
     }
     accepted
@@ -105,7 +105,7 @@ fn wide(b: u8) -> usize
 }
 
 // The same for every list of the input.
-fn try_lists(input: &mut [u8], field: usize, stack: &mut [u32; 65536]) -> u64
+fn try_lists(input: &mut [u8], field: usize) -> u64
     requires { ⌜ length (now input) ≤ 65536 ⌝ }
 {
     let end = input.len();
@@ -118,7 +118,7 @@ fn try_lists(input: &mut [u8], field: usize, stack: &mut [u32; 65536]) -> u64
         if end < to {
             return accepted;
         }
-        accepted += try_list(&mut input[from..to], field, how, stack);
+        accepted += try_list(&mut input[from..to], field, how);
         at = to;
     }
     accepted
@@ -208,40 +208,39 @@ fn write_field(field: usize) {
 }
 
 // For each field, how many lists are accepted with that field of one record damaged.
-fn report(input: &mut [u8], stack: &mut [u32; 65536])
+fn report(input: &mut [u8])
     requires { ⌜ length (now input) ≤ 65536 ⌝ }
 {
     line(b"records: ", count_records(input));
     let mut field = 0;
     while field < 7 {
         write_field(field);
-        line(b" damaged, accepted: ", try_lists(input, field, stack));
+        line(b" damaged, accepted: ", try_lists(input, field));
         field += 1;
     }
 }
 
-fn report_large(list: &[u8], stack: &mut [u32; 65536])
+fn report_large(list: &[u8])
     requires { ⌜ slots (now list) ≤ 65536 ⌝ }
 {
-    line(b"one pattern: ", one_if(one_pattern(list, 0, stack)));
+    line(b"one pattern: ", one_if(one_pattern(list, 0)));
     line(b"first at depth 65: ", first_deep(list) as u64);
     line(b"first MacroArg: ", first_macro_arg(list) as u64);
     line(b"after the first tree: ", skip(list, 0, 1) as u64);
 }
 
 // 65,536 records, each inside the one before it; then all but the first side by side.
-fn large(list: &mut [u8; 1572864], stack: &mut [u32; 65536]) {
+fn large(list: &mut [u8; 1572864]) {
     fill(list, and_of(1), and_of(1), wildcard());
-    report_large(list, stack);
+    report_large(list);
     fill(list, and_of(65535), wildcard(), wildcard());
-    report_large(list, stack);
+    report_large(list);
 }
 
 fn main() {
     let mut input = io::large_buffer();
     let got = io::read_full(0, &mut input);
-    let mut stack = [0u32; 65536];
-    report(&mut input[..got], &mut stack);
+    report(&mut input[..got]);
     let mut list = [0u8; 1572864];
-    large(&mut list, &mut stack);
+    large(&mut list);
 }

@@ -79,7 +79,7 @@ module _ (text t : List ℕ) (n : ℕ) (defs p : List ℕ) (a : Accepting text t
   fine : Acceptable text E (treeOf (recs p))
   fine = acceptable text (treesOf (recs defs)) (treeOf (recs p)) (list-named (recs defs) (a .shaped .placed)) pattern-named (a .fine)
 
-  pub accepting-source : (ends : List ℕ) → EndsFrom (recs defs) ends 0 → 65536 ≤ length ends → Source text t n defs ends
+  pub accepting-source : (ends : List ℕ) → EndsFrom (recs defs) ends 0 → slots defs ≤ length ends → Source text t n defs ends
   accepting-source ends e l =
       record {
         table = a .table;
@@ -88,7 +88,7 @@ module _ (text t : List ℕ) (n : ℕ) (defs p : List ℕ) (a : Accepting text t
         extractors-placed = a .shaped .extractors-placed;
         small = a .shaped .few;
         ended = e;
-        ends-long = omega (arith, a .shaped .few);
+        ends-long = l;
       }
 
   module _ (sp : ℕ) (s o starts s₁ o₁ : List ℕ) (y : ℕ) (isp : sp ≡ spaceOf s) (stored : Stored sp text t n defs s o starts s₁ o₁ y) where

@@ -45,7 +45,7 @@ fn open_templates(
     out: &mut [u8],
     space: usize,
 ) -> usize
-    requires { ⌜ Accepting (now text) (now table) n (now defs) (now pattern) × (65536 ≤ length (now ends)) × (256 < length (now starts)) × (space ≡ spaceOf (now store)) ⌝ }
+    requires { ⌜ Accepting (now text) (now table) n (now defs) (now pattern) × ((slots (now defs) ≤ length (now ends)) × (slots (now pattern) ≤ length (now ends))) × (256 < length (now starts)) × (space ≡ spaceOf (now store)) ⌝ }
     ensures { λ y. ⌜ Stored space (now (text .entry)) (now (table .entry)) n (now (defs .entry)) (now (store .entry)) (now (out .entry)) (now (starts .exit)) (now (store .exit)) (now (out .exit)) y ⌝ }
 {
     fill_ends(defs, ends);
@@ -64,7 +64,7 @@ fn open_pattern(
     out: &mut [u8],
     space: usize,
 ) -> usize
-    requires { ⌜ ((S : List (Named Tree)) × ReadyFor (now text) (now table) n (now starts) (now pattern) (now store) S) × All Placed (recs (now pattern)) × (slots (now pattern) ≤ 65536) × (65536 ≤ length (now ends)) × Room true space (getD (now starts) n 0) (now store) (now out) 0 ⌝ }
+    requires { ⌜ ((S : List (Named Tree)) × ReadyFor (now text) (now table) n (now starts) (now pattern) (now store) S) × All Placed (recs (now pattern)) × (slots (now pattern) ≤ 65536) × (slots (now pattern) ≤ length (now ends)) × Room true space (getD (now starts) n 0) (now store) (now out) 0 ⌝ }
     ensures { λ y. ⌜ PatternOpened space (now (text .entry)) (now (table .entry)) n (now (starts .entry)) (now (pattern .entry)) (now (store .entry)) (now (out .entry)) (now (store .exit)) (now (out .exit)) y ⌝ }
 {
     fill_ends(pattern, ends);
@@ -98,7 +98,7 @@ fn open_fine(
     store: &mut [u8],
     out: &mut [u8],
 ) -> Answer
-    requires { ⌜ Accepting (now text) (now table) n (now defs) (now pattern) × (65536 ≤ length (now ends)) × (256 < length (now starts)) ⌝ }
+    requires { ⌜ Accepting (now text) (now table) n (now defs) (now pattern) × ((slots (now defs) ≤ length (now ends)) × (slots (now pattern) ≤ length (now ends))) × (256 < length (now starts)) ⌝ }
     ensures { λ a. ⌜ Answers (now (text .entry)) (now (defs .entry)) (now (pattern .entry)) (now (store .entry)) (now (out .entry)) (now (store .exit)) (now (out .exit)) a ⌝ }
 {
     let s = space_in(store);
@@ -133,7 +133,7 @@ pub fn open_into(
     store: &mut [u8],
     out: &mut [u8],
 ) -> Answer
-    requires { ⌜ (isMany (length (now text)) definition (recs (now defs)) ≡ true) × (isOne (length (now text)) patternSort (recs (now pattern)) ≡ true) × (slots (now defs) ≤ 65536) × (slots (now pattern) ≤ 65536) × (65536 ≤ length (now ends)) ⌝ }
+    requires { ⌜ (isMany (length (now text)) definition (recs (now defs)) ≡ true) × (isOne (length (now text)) patternSort (recs (now pattern)) ≡ true) × (slots (now defs) ≤ 65536) × (slots (now pattern) ≤ 65536) × ((slots (now defs) ≤ length (now ends)) × (slots (now pattern) ≤ length (now ends))) ⌝ }
     ensures { λ a. ⌜ Answers (now (text .entry)) (now (defs .entry)) (now (pattern .entry)) (now (store .entry)) (now (out .entry)) (now (store .exit)) (now (out .exit)) a ⌝ }
 {
     let mut table = [0u64; 768];

@@ -9,10 +9,10 @@ use templating::sizes;
 use words::clear;
 use words::clear_from;
 ghost use mathlib.Core.Path.{_≡_};
-ghost use Prim.Native.Nat.{ℕ, _≤_};
+ghost use Prim.Native.Nat.{ℕ, _≤_, _/_};
 ghost use lib.ListN.{length};
 ghost use Rattle.trees.specs.Tree.{treesOf};
-ghost use Rattle.records.specs.Slots.{recs};
+ghost use Rattle.records.specs.Slots.{slots, recs};
 ghost use Rattle.records.specs.Result.{accepted};
 ghost use Rattle.grounds.specs.Grounds.{refusal};
 ghost use Rattle.grounds.specs.Opening.{treeOf, refuse, opening};
@@ -53,20 +53,52 @@ fn finish(store: &mut [u8], out: &mut [u8], a: Answer) -> u64
     }
 }
 
-// Definitions and a pattern that are of their kind.
-fn open_judged(
+// Definitions and a pattern that are of their kind, with a lent table for the ends of trees.
+fn open_by(
     text: &[u8],
     defs: &[u8],
     pattern: &[u8],
-    ends: &mut [u32; 65536],
+    ends: &mut [u32],
     store: &mut [u8],
     out: &mut [u8],
 ) -> u64
-    requires { ⌜ Judged (now text) (now defs) (now pattern) ⌝ }
+    requires { ⌜ Judged (now text) (now defs) (now pattern) × (slots (now defs) ≤ length (now ends)) × (slots (now pattern) ≤ length (now ends)) ⌝ }
     ensures { λ r. ⌜ Left (opening (now (text .entry)) (treesOf (recs (now (defs .entry)))) (treeOf (recs (now (pattern .entry)))) (spaceOf (now (store .entry))) (spaceOf (now (out .entry)))) (length (now (store .entry))) (length (now (out .entry))) (now (store .exit)) (now (out .exit)) r ⌝ }
 {
     let a = open_into(text, defs, pattern, ends, store, out);
     finish(store, out, a)
+}
+
+// With a table for few records.
+fn open_few(text: &[u8], defs: &[u8], pattern: &[u8], store: &mut [u8], out: &mut [u8]) -> u64
+    requires { ⌜ Judged (now text) (now defs) (now pattern) × (slots (now defs) ≤ 4096) × (slots (now pattern) ≤ 4096) ⌝ }
+    ensures { λ r. ⌜ Left (opening (now (text .entry)) (treesOf (recs (now (defs .entry)))) (treeOf (recs (now (pattern .entry)))) (spaceOf (now (store .entry))) (spaceOf (now (out .entry)))) (length (now (store .entry))) (length (now (out .entry))) (now (store .exit)) (now (out .exit)) r ⌝ }
+{
+    let mut ends = [0u32; 4096];
+    open_by(text, defs, pattern, &mut ends, store, out)
+}
+
+// With a table for any lists.
+fn open_many(text: &[u8], defs: &[u8], pattern: &[u8], store: &mut [u8], out: &mut [u8]) -> u64
+    requires { ⌜ Judged (now text) (now defs) (now pattern) ⌝ }
+    ensures { λ r. ⌜ Left (opening (now (text .entry)) (treesOf (recs (now (defs .entry)))) (treeOf (recs (now (pattern .entry)))) (spaceOf (now (store .entry))) (spaceOf (now (out .entry)))) (length (now (store .entry))) (length (now (out .entry))) (now (store .exit)) (now (out .exit)) r ⌝ }
+{
+    let mut ends = [0u32; 65536];
+    open_by(text, defs, pattern, &mut ends, store, out)
+}
+
+// Definitions and a pattern that are of their kind. A small table is filled with zeros in less time than a large one.
+fn open_judged(text: &[u8], defs: &[u8], pattern: &[u8], store: &mut [u8], out: &mut [u8]) -> u64
+    requires { ⌜ Judged (now text) (now defs) (now pattern) ⌝ }
+    ensures { λ r. ⌜ Left (opening (now (text .entry)) (treesOf (recs (now (defs .entry)))) (treeOf (recs (now (pattern .entry)))) (spaceOf (now (store .entry))) (spaceOf (now (out .entry)))) (length (now (store .entry))) (length (now (out .entry))) (now (store .exit)) (now (out .exit)) r ⌝ }
+{
+    if 4096 < defs.len() / 24 {
+        return open_many(text, defs, pattern, store, out);
+    }
+    if 4096 < pattern.len() / 24 {
+        return open_many(text, defs, pattern, store, out);
+    }
+    open_few(text, defs, pattern, store, out)
 }
 
 // Any lent lists, any text, any store, any output.
@@ -77,12 +109,11 @@ pub fn open(text: &[u8], defs: &[u8], pattern: &[u8], store: &mut [u8], out: &mu
     if n != 0 {
         return refuse(store, out, n, 0);
     }
-    let mut ends = [0u32; 65536];
-    if !definitions(defs, text.len(), &mut ends) {
+    if !definitions(defs, text.len()) {
         return refuse(store, out, 3, 0);
     }
-    if !one_pattern(pattern, text.len(), &mut ends) {
+    if !one_pattern(pattern, text.len()) {
         return refuse(store, out, 3, 0);
     }
-    open_judged(text, defs, pattern, &mut ends, store, out)
+    open_judged(text, defs, pattern, store, out)
 }

@@ -61,11 +61,10 @@ pub fn make(text: &[u8], pattern: &[u8], params: &[u8], out: &mut [u8]) -> u64
     if n != 0 {
         return refuse(out, n);
     }
-    let mut stack = [0u32; 65536];
-    if !one_pattern(pattern, text.len(), &mut stack) {
+    if !one_pattern(pattern, text.len()) {
         return refuse(out, 3);
     }
-    if !idents(params, text.len(), &mut stack) {
+    if !idents(params, text.len()) {
         return refuse(out, 3);
     }
     make_judged(text, pattern, params, out)
@@ -88,11 +87,10 @@ pub fn fill(text: &[u8], template: &[u8], patterns: &[u8], out: &mut [u8]) -> u6
     if n != 0 {
         return refuse(out, n);
     }
-    let mut stack = [0u32; 65536];
-    if !one_pattern(template, text.len(), &mut stack) {
+    if !one_pattern(template, text.len()) {
         return refuse(out, 3);
     }
-    if !many_patterns(patterns, text.len(), &mut stack) {
+    if !many_patterns(patterns, text.len()) {
         return refuse(out, 3);
     }
     substitute_judged(template, patterns, out)

@@ -6,10 +6,10 @@ use Rattle.judge_lists.proofs.report.Statement.{statement}
 use Rattle.judge_lists.proofs.report.Tie as tie
 
 abbrev Inv-loop : tie.InvT-loop
-Inv-loop input₀ stack₀ field₀ t5 input stack field = length input ≡ length input₀
+Inv-loop input₀ field₀ t5 input field = length input ≡ length input₀
 
 abbrev μ-loop : tie.MeasureT-loop
-μ-loop input₀ stack₀ field₀ t5 input stack field = 7 - field
+μ-loop input₀ field₀ t5 input field = 7 - field
 
 slice-aggregate-line : tie.Need-slice-aggregate-line Inv-loop μ-loop
 slice-aggregate-line c = search needs

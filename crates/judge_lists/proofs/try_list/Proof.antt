@@ -6,10 +6,10 @@ use Rattle.judge_lists.proofs.try_list.Statement.{statement}
 use Rattle.judge_lists.proofs.try_list.Tie as tie
 
 abbrev Inv-loop : tie.InvT-loop
-Inv-loop list₀ field how stack₀ n accepted₀ i₀ list stack accepted i = (i ≤ n) × (accepted ≤ i) × (length list ≡ length list₀)
+Inv-loop list₀ field how n accepted₀ i₀ list accepted i = (i ≤ n) × (accepted ≤ i) × (length list ≡ length list₀)
 
 abbrev μ-loop : tie.MeasureT-loop
-μ-loop list₀ field how stack₀ n accepted₀ i₀ list stack accepted i = n - i
+μ-loop list₀ field how n accepted₀ i₀ list accepted i = n - i
 
 slots-requires : tie.Need-slots-requires Inv-loop μ-loop
 slots-requires c κs = search needs

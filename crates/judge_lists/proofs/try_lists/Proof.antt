@@ -6,10 +6,10 @@ use Rattle.judge_lists.proofs.try_lists.Statement.{statement}
 use Rattle.judge_lists.proofs.try_lists.Tie as tie
 
 abbrev Inv-loop : tie.InvT-loop
-Inv-loop input₀ field stack₀ end accepted₀ at₀ input stack accepted at = (at ≤ end) × (accepted ≤ 65536 * at) × (length input ≡ length input₀)
+Inv-loop input₀ field end accepted₀ at₀ input accepted at = (at ≤ end) × (accepted ≤ 65536 * at) × (length input ≡ length input₀)
 
 abbrev μ-loop : tie.MeasureT-loop
-μ-loop input₀ field stack₀ end accepted₀ at₀ input stack accepted at = end - at
+μ-loop input₀ field end accepted₀ at₀ input accepted at = end - at
 
 loop-holds : tie.Need-loop-holds Inv-loop μ-loop
 loop-holds c = search needs

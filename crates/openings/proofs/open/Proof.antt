@@ -54,7 +54,7 @@ unfolding openingOf
 returns-3 c = search wrong-second
 
 open-judged-requires : tie.Need-open-judged-requires
-open-judged-requires c κs = ready-to-open _ _ _ _ _ _ (c .before .before .before .before .before .before .before .before .before .before .sizes .ensures) (c .before .before .before .before .before .before .before .before .before .if1 .left) (c .before .before .before .before .before .before .before .definitions .ensures) (c .before .before .before .before .before .before .if2 .left) (c .before .before .before .before .one-pattern .ensures) (c .before .before .before .if3 .left)
+open-judged-requires c κs = ready-to-open _ _ _ _ _ _ (c .before .before .before .before .before .before .before .sizes .ensures) (c .before .before .before .before .before .before .if1 .left) (c .before .before .before .before .before .definitions .ensures) (c .before .before .before .before .if2 .left) (c .before .before .before .one-pattern .ensures) (c .before .before .if3 .left)
 
 same-length-7 : tie.Need-same-length-7
 same-length-7 c = search needs

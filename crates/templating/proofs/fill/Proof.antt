@@ -44,7 +44,7 @@ unfolding substituting
 returns-3 c = search wrong-second
 
 substitute-judged-requires : tie.Need-substitute-judged-requires
-substitute-judged-requires c κs = search (ready-to-substitute, c .before .if3 .left, c .before .before .many-patterns .ensures, c .before .before .before .before .if2 .left, c .before .before .before .before .before .one-pattern .ensures, c .before .before .before .before .before .before .before .if1 .left, c .before .before .before .before .before .before .before .before .sizes .ensures, c .before .before .before .before .before .before .before .before .before .before .before .before .before .pre)
+substitute-judged-requires c κs = ready-to-substitute _ _ _ _ (c .before .before .before .before .before .before .sizes .ensures) (c .before .before .before .before .before .if1 .left) _ _ (c .before .before .before .before .one-pattern .ensures) (c .before .before .before .if2 .left) (c .before .before .many-patterns .ensures) (c .before .if3 .left)
 
 same-length-4 : tie.Need-same-length-4
 same-length-4 c = search needs

@@ -44,7 +44,7 @@ unfolding making
 returns-3 c = search wrong-second
 
 make-judged-requires : tie.Need-make-judged-requires
-make-judged-requires c κs = search (ready-to-make, c .before .if3 .left, c .before .before .idents .ensures, c .before .before .before .before .if2 .left, c .before .before .before .before .before .one-pattern .ensures, c .before .before .before .before .before .before .before .if1 .left, c .before .before .before .before .before .before .before .before .sizes .ensures, c .before .before .before .before .before .before .before .before .before .before .before .before .before .pre)
+make-judged-requires c κs = ready-to-make _ _ _ _ (c .before .before .before .before .before .before .sizes .ensures) (c .before .before .before .before .before .if1 .left) _ _ (c .before .before .before .before .one-pattern .ensures) (c .before .before .before .if2 .left) (c .before .before .idents .ensures) (c .before .if3 .left)
 
 same-length-4 : tie.Need-same-length-4
 same-length-4 c = search needs

@@ -29,7 +29,7 @@ returns : tie.Need-returns
 returns c = store-full _ _ _ _ _ ((c .before .before .before .before .before .before .before .before .before .before .before .before .before .before .before .before .before .before .before .before .before .before .before .before .before .before .pre) .0) _ _ _ _ _ _ _ (c .before .before .before .before .before .before .before .before .before .before .before .before .before .before .before .before .space-in .ensures) (c .before .before .before .before .before .before .before .before .before .open-templates .ensures) (c .if1 .taken)
 
 open-pattern-requires : tie.Need-open-pattern-requires
-open-pattern-requires c κs = ((_, pattern-ready _ _ _ _ _ ((c .before .before .before .before .before .before .before .before .before .before .before .before .before .before .before .before .before .before .before .before .before .before .before .before .before .before .before .before .before .before .pre) .0) _ _ _ _ _ _ _ (c .before .before .before .before .before .before .before .before .before .before .before .before .before .before .before .before .before .before .before .before .space-in .ensures) (c .before .before .before .before .before .before .before .before .before .before .before .before .before .open-templates .ensures) (omega (arith, (c .before .before .before .before .if1 .left))) (omega (arith, (c .before .before .before .before .before .before .before .before .before .before .before .before .before .before .before .before .before .before .before .before .before .before .before .before .before .before .before .before .before .before .pre) .2))), (c .before .before .before .before .before .before .before .before .before .before .before .before .before .before .before .before .before .before .before .before .before .before .before .before .before .before .before .before .before .before .pre) .0 .shaped .pattern-placed, (c .before .before .before .before .before .before .before .before .before .before .before .before .before .before .before .before .before .before .before .before .before .before .before .before .before .before .before .before .before .before .pre) .0 .shaped .small, omega (arith, (c .before .before .before .before .before .before .before .before .before .before .before .before .before .before .before .before .before .before .before .before .before .before .before .before .before .before .before .before .before .before .pre) .1), pattern-room _ _ _ _ _ ((c .before .before .before .before .before .before .before .before .before .before .before .before .before .before .before .before .before .before .before .before .before .before .before .before .before .before .before .before .before .before .pre) .0) _ _ _ _ _ _ _ (c .before .before .before .before .before .before .before .before .before .before .before .before .before .before .before .before .before .before .before .before .space-in .ensures) (c .before .before .before .before .before .before .before .before .before .before .before .before .before .open-templates .ensures) (omega (arith, (c .before .before .before .before .if1 .left))) _ (c .before .before .before .before .before .before .before .before .before .before .before .before .before .before .before .before .before .before .space-in2 .ensures))
+open-pattern-requires c κs = ((_, pattern-ready _ _ _ _ _ ((c .before .before .before .before .before .before .before .before .before .before .before .before .before .before .before .before .before .before .before .before .before .before .before .before .before .before .before .before .before .before .pre) .0) _ _ _ _ _ _ _ (c .before .before .before .before .before .before .before .before .before .before .before .before .before .before .before .before .before .before .before .before .space-in .ensures) (c .before .before .before .before .before .before .before .before .before .before .before .before .before .open-templates .ensures) (omega (arith, (c .before .before .before .before .if1 .left))) (omega (arith, (c .before .before .before .before .before .before .before .before .before .before .before .before .before .before .before .before .before .before .before .before .before .before .before .before .before .before .before .before .before .before .pre) .2))), (c .before .before .before .before .before .before .before .before .before .before .before .before .before .before .before .before .before .before .before .before .before .before .before .before .before .before .before .before .before .before .pre) .0 .shaped .pattern-placed, (c .before .before .before .before .before .before .before .before .before .before .before .before .before .before .before .before .before .before .before .before .before .before .before .before .before .before .before .before .before .before .pre) .0 .shaped .small, omega (arith, (c .before .before .before .before .before .before .before .before .before .before .before .before .before .before .before .before .before .before .before .before .before .before .before .before .before .before .before .before .before .before .pre) .1 .1), pattern-room _ _ _ _ _ ((c .before .before .before .before .before .before .before .before .before .before .before .before .before .before .before .before .before .before .before .before .before .before .before .before .before .before .before .before .before .before .pre) .0) _ _ _ _ _ _ _ (c .before .before .before .before .before .before .before .before .before .before .before .before .before .before .before .before .before .before .before .before .space-in .ensures) (c .before .before .before .before .before .before .before .before .before .before .before .before .before .open-templates .ensures) (omega (arith, (c .before .before .before .before .if1 .left))) _ (c .before .before .before .before .before .before .before .before .before .before .before .before .before .before .before .before .before .before .space-in2 .ensures))
 
 same-length-5 : tie.Need-same-length-5
 same-length-5 c = search needs

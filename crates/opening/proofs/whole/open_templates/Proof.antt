@@ -8,7 +8,7 @@ fill-ends-requires : tie.Need-fill-ends-requires
 fill-ends-requires c κs = search needs
 
 fill-store-requires : tie.Need-fill-store-requires
-fill-store-requires c κs = (accepting-source _ _ _ _ _ ((c .before .before .before .before .before .before .before .before .before .before .before .before .before .before .before .before .pre) .0) _ (c .before .before .before .before .before .before .fill-ends .ensures) (omega (arith, (c .before .before .before .before .before .before .before .before .before .before .before .before .before .before .before .before .pre) .1)), omega (arith, (c .before .before .before .before .before .before .before .before .before .before .before .before .before .before .before .before .pre) .2, (c .before .before .before .before .before .before .before .before .before .before .before .before .before .before .before .before .pre) .0 .table .few), space-slots _ _ ((c .before .before .before .before .before .before .before .before .before .before .before .before .before .before .before .before .pre) .3), space-most _ _ ((c .before .before .before .before .before .before .before .before .before .before .before .before .before .before .before .before .pre) .3))
+fill-store-requires c κs = (accepting-source _ _ _ _ _ ((c .before .before .before .before .before .before .before .before .before .before .before .before .before .before .before .before .pre) .0) _ (c .before .before .before .before .before .before .fill-ends .ensures) (omega (arith, (c .before .before .before .before .before .before .before .before .before .before .before .before .before .before .before .before .pre) .1 .0)), omega (arith, (c .before .before .before .before .before .before .before .before .before .before .before .before .before .before .before .before .pre) .2, (c .before .before .before .before .before .before .before .before .before .before .before .before .before .before .before .before .pre) .0 .table .few), space-slots _ _ ((c .before .before .before .before .before .before .before .before .before .before .before .before .before .before .before .before .pre) .3), space-most _ _ ((c .before .before .before .before .before .before .before .before .before .before .before .before .before .before .before .before .pre) .3))
 
 same-length : tie.Need-same-length
 same-length c = search needs
