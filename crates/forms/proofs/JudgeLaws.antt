@@ -1,14 +1,15 @@
 -- The ways through the tests of one record, in the code's terms. Assumes nothing.
 use mathlib.Core.Path.{_≡_, refl, sym}
 use mathlib.Core.Bool.{Bool, true, false, not}
-use Prim.Native.Nat.{ℕ, _+_, _*_, _/_, _%_, _≤_, _<_}
+use Prim.Native.Nat.{ℕ, zero, suc, _+_, _*_, _/_, _%_, _≤_, _<_}
 use native.Mathlib.Omega.{arith}
 use lib.Dec.{eqb, leb}
-use borrow.Author.Tests.{eq-eqb, ne-eqb, lt-ltb, le-ltb, not-true, not-false}
+use borrow.Author.Tests.{eq-eqb, ne-eqb, eqb-true, eqb-false, lt-ltb, le-ltb, le-leb, lt-leb, not-true, not-false}
 use Rattle.trees.specs.declared.Rec.{Rec}
+use Rattle.trees.specs.Choice.{pick}
 use Rattle.forms.specs.declared.Row.{Row}
 use Rattle.forms.specs.Kinds.{none, tuple-field, index, integer, range}
-use Rattle.forms.specs.Forms.{placed, some, singles, positionOk, wordsOk, stands}
+use Rattle.forms.specs.Forms.{placed, some, singles, positionOk, reach, wordsOk, stands}
 use Rattle.forms.proofs.TestLaws.{true-and, false-and, and-false}
 
 pub some-none : (s : ℕ) → s ≡ 0 → 0 ≡ some s
@@ -56,6 +57,27 @@ pub position-any : (p x : ℕ) → (p ≡ 0 → ⊥) → true ≡ positionOk p x
 unfolding positionOk
 position-any p x e = rw (ne-eqb p 0 e)
 
+-- how far a range may reach
+pub reach-range : (t w : ℕ) → w ≡ 3 → t ≡ reach t w
+unfolding reach
+reach-range t w e = rw (eq-eqb w range e)
+
+pub reach-none : (t w : ℕ) → (w ≡ 3 → ⊥) → 0 ≡ reach t w
+unfolding reach
+reach-none t w e = rw (ne-eqb w range e)
+
+-- a word that reaches no further than 0 is 0
+positive : (a : ℕ) → eqb a 0 ≡ false → 0 < a
+positive zero e = absurd (eqb-false 0 0 e refl)
+positive (suc a) e = omega arith
+
+reach-nothing : (a : ℕ) → leb (a / 4294967296 + a % 4294967296) 0 ≡ eqb a 0
+reach-nothing a = go (eqb a 0) refl
+  where
+    go : (y : Bool) → eqb a 0 ≡ y → leb (a / 4294967296 + a % 4294967296) 0 ≡ y
+    go true p = le-leb (a / 4294967296 + a % 4294967296) 0 (omega (arith, eqb-true a 0 p))
+    go false p = lt-leb (a / 4294967296 + a % 4294967296) 0 (omega (arith, positive a p))
+
 module _ (t w a b : ℕ) where
   pub words-integer : w ≡ 2 → true ≡ wordsOk t w a b
   unfolding wordsOk
@@ -69,13 +91,13 @@ module _ (t w a b : ℕ) where
   unfolding wordsOk
   words-index e f g = rw (ne-eqb w integer e, eq-eqb b 0 f, true-and, eq-eqb w index g)
 
-  pub words-range : (w ≡ 2 → ⊥) → b ≡ 0 → (w ≡ 1 → ⊥) → w ≡ 3 → leb (a / 4294967296 + a % 4294967296) t ≡ wordsOk t w a b
-  unfolding wordsOk
-  words-range e f g h = rw (ne-eqb w integer e, eq-eqb b 0 f, true-and, ne-eqb w index g, eq-eqb w range h)
-
-  pub words-empty : (w ≡ 2 → ⊥) → b ≡ 0 → (w ≡ 1 → ⊥) → (w ≡ 3 → ⊥) → eqb a 0 ≡ wordsOk t w a b
-  unfolding wordsOk
-  words-empty e f g h = rw (ne-eqb w integer e, eq-eqb b 0 f, true-and, ne-eqb w index g, ne-eqb w range h)
+  pub words-reach : (g : ℕ) → (w ≡ 2 → ⊥) → b ≡ 0 → (w ≡ 1 → ⊥) → g ≡ reach t w → leb (a / 4294967296 + a % 4294967296) g ≡ wordsOk t w a b
+  unfolding wordsOk reach
+  words-reach g e f h r = rw (ne-eqb w integer e, eq-eqb b 0 f, true-and, ne-eqb w index h, r) (go (eqb w range))
+    where
+      go : (x : Bool) → leb (a / 4294967296 + a % 4294967296) (pick x t 0) ≡ pick x (leb (a / 4294967296 + a % 4294967296) t) (eqb a 0)
+      go true = refl
+      go false = reach-nothing a
 
 module _ (t s : ℕ) (w : Row) (r : Rec) where
   pub stands-nowhere : s ≡ 0 → false ≡ stands t s w r

@@ -46,6 +46,10 @@ children r = sortsOf (rowFor (r .kind) (r .flags)) (r .count)
 unfoldable pub positionOk : ℕ → ℕ → Bool
 positionOk p x = pick (eqb p 0) (eqb x 0) true
 
+-- how far a range in word 1 may reach where the text has t bytes: to its end, or there is none
+unfoldable pub reach : ℕ → ℕ → ℕ
+reach t w = pick (eqb w range) t 0
+
 -- words 1 and 2 where the text has t bytes
 unfoldable pub wordsOk : ℕ → ℕ → ℕ → ℕ → Bool
 wordsOk t w a b =

@@ -11,7 +11,7 @@ ghost use lib.ListN.{length, replicate};
 ghost use lib.Dec.{eqb};
 ghost use Rattle.records.specs.Slots.{slots, recs};
 ghost use Rattle.forms.specs.Kinds.{pattern, definition, name};
-ghost use Rattle.forms.specs.Forms.{placed, one, run, some, singles, leading, sortsOf, positionOk, wordsOk, stands, next, fits, isOne, isMany};
+ghost use Rattle.forms.specs.Forms.{placed, one, run, some, singles, leading, sortsOf, positionOk, reach, wordsOk, stands, next, fits, isOne, isMany};
 ghost use Rattle.forms.specs.Stack.{pending, Pushed};
 
 // One where there is a child of the sort s.
@@ -54,6 +54,13 @@ fn position_ok(position: u8, x: u32) -> bool
     true
 }
 
+// How far a range in word 1 may reach: to the end of the text, or there is none.
+fn reach(t: usize, w: u8) -> usize
+    ensures { λ r. ⌜ r ≡ reach t w ⌝ }
+{
+    if w == 3 { t } else { 0 }
+}
+
 // What words 1 and 2 hold, with a text of t bytes.
 fn words_ok(t: usize, w: u8, a: u64, b: u64) -> bool
     ensures { λ r. ⌜ r ≡ wordsOk t w a b ⌝ }
@@ -67,10 +74,7 @@ fn words_ok(t: usize, w: u8, a: u64, b: u64) -> bool
     if w == 1 {
         return true;
     }
-    if w == 3 {
-        return (a / 4294967296 + a % 4294967296) as usize <= t;
-    }
-    a == 0
+    (a / 4294967296 + a % 4294967296) as usize <= reach(t, w)
 }
 
 // Whether a record with the row w may stand where the sort s is expected.
