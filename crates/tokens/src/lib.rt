@@ -82,7 +82,7 @@ impl Token {
 }
 
 // The token at an index, or what stands past the last one.
-pub fn peek(tokens: &[u8], end: u32, at: usize) -> Token
+pub fn token_at(tokens: &[u8], end: u32, at: usize) -> Token
     ensures { λ r. ⌜ r ≡ tokenAt (now (tokens .entry)) end at ⌝ }
 {
     if at < tokens.len() / Token::WIDTH {

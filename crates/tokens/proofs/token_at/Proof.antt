@@ -1,7 +1,7 @@
 use Rattle.tokens.proofs.TokenLaws.{token-there, token-past}
 use borrow.Author.Needs.{needs}
-use Rattle.tokens.proofs.peek.Statement.{statement}
-use Rattle.tokens.proofs.peek.Tie as tie
+use Rattle.tokens.proofs.token_at.Statement.{statement}
+use Rattle.tokens.proofs.token_at.Tie as tie
 
 mul-k : tie.Need-mul-k
 mul-k c = search needs
@@ -33,8 +33,8 @@ returns c = search token-there
 returns-2 : tie.Need-returns-2
 returns-2 c = search token-past
 
-pub peek-spec : {M : Type 1} → statement M
-peek-spec =
+pub token-at-spec : {M : Type 1} → statement M
+token-at-spec =
     tie.close
     (tie.spec
     mul-k
