@@ -63,7 +63,7 @@ pub fn parse_expr(
             word1: t.word1,
             word2: t.word2,
         };
-        return put_leaf(out, p, h);
+        return put_leaf(tokens, out, p, h);
     }
     refuse_at(tokens, end, p, 26)
 }

@@ -144,8 +144,8 @@ passing-by s from i e n more e′ n′ zero a b c h t v = absurd (omega arith)
 passing-by s from i e n more e′ n′ (suc f) a b c h t v =
     record { fuel = f; total = omega arith; flags = b ∙ t .flags f ∙ rw v; ends = c ∙ t .ends f ∙ rw v; small = t .small; few = t .few }
 
-pub passing-on : (s : Input) (from i e n : ℕ) (more : Bool) (e′ n′ : ℕ) → Passing s from i e n → i < size s → Turned s e n i more e′ n′ → more ≡ true → Passing s from (i + 1) e′ n′
-passing-on s from i e n more e′ n′ w h t v = passing-by s from i e n more e′ n′ (w .fuel) (w .total) (w .flags) (w .ends) h t v
+pub passing-on : (s : Input) (from i e n : ℕ) (more : Bool) (e′ n′ : ℕ) → Passing s from i e n → i < size s → Turned s e n i more e′ n′ → more ≡ true → (j : ℕ) → j ≡ i + 1 → Passing s from j e′ n′
+passing-on s from i e n more e′ n′ w h t v j f = rw f (passing-by s from i e n more e′ n′ (w .fuel) (w .total) (w .flags) (w .ends) h t v)
 
 stop-by : (s : Input) (from i e n : ℕ) (more : Bool) (e′ n′ f : ℕ) → from < 8589934592 → size s ≤ 16384 → f + i ≡ size s + from → modifierFlags s (size s) 0 0 from ≡ modifierFlags s f e n i → modifiersEnd s (size s) from ≡ modifiersEnd s f i → i < size s → Turned s e n i more e′ n′ → more ≡ false → ModifiedFrom s from (e + n) i
 stop-by s from i e n more e′ n′ zero x y a b c h t v = absurd (omega arith)
@@ -166,12 +166,12 @@ unfolding Flags
 modified-refused s (Accepted i n k) o = absurd (omega arith)
 modified-refused s (Refused e) o = record { flags = tt; ends = tt; near = omega arith }
 
-pub modified-at : (s : Input) (p : Parsed) (i n k x next : ℕ) → p ≡ Accepted i n k → ModifiedFrom s (i + 1) x next → ModifiedAt s p x next
+pub modified-at : (s : Input) (p : Parsed) (i n k j x next : ℕ) → p ≡ Accepted i n k → j ≡ i + 1 → ModifiedFrom s j x next → ModifiedAt s p x next
 unfolding Flags
-modified-at s p i n k x next e m = rw e (record { flags = m .flags; ends = m .ends; near = m .near })
+modified-at s p i n k j x next e f m′ = let m = rw f at m′ in rw e (record { flags = m .flags; ends = m .ends; near = m .near })
 
-pub from-near : (c : ℕ) (s : Input) (p : Parsed) (i n k : ℕ) → Ready c s p → p ≡ Accepted i n k → i + 1 < 8589934592
-from-near c s p i n k h e = let a = ready-at c s p i n k h e in omega (arith, a .few, a .here)
+pub from-near : (c : ℕ) (s : Input) (p : Parsed) (i n k j : ℕ) → Ready c s p → p ≡ Accepted i n k → j ≡ i + 1 → j < 8589934592
+from-near c s p i n k j h e f = let a = ready-at c s p i n k h e in omega (arith, a .few, a .here)
 
 pub few-tokens : (c : ℕ) (tokens text : List ℕ) (end : ℕ) (p : Parsed) (i n k : ℕ) → Ready c (input tokens text end) p → p ≡ Accepted i n k → tokenCount tokens ≤ 16384
 few-tokens c tokens text end p i n k h e = ready-at c (input tokens text end) p i n k h e .few
@@ -184,9 +184,9 @@ passed-refused tokens end next (Accepted i n k) o = absurd (omega arith)
 passed-refused tokens end next (Refused e) o = refl
 
 module _ (tokens : List ℕ) (end next : ℕ) (p : Parsed) (i n k : ℕ) (t : Token) (r : Bool) where
-  pub passed-wrong : (u : Token) → p ≡ Accepted i n k → t ≡ tokenAt tokens end next → r ≡ isSymbol t → r ≡ true → u ≡ tokenAt tokens end (next + 1) → Refused (refusal 18 (u .pos) (next + 1)) ≡ passed tokens end next p
+  pub passed-wrong : (u : Token) (j : ℕ) → p ≡ Accepted i n k → t ≡ tokenAt tokens end next → r ≡ isSymbol t → r ≡ true → u ≡ tokenAt tokens end (next + 1) → j ≡ next + 1 → Refused (refusal 18 (u .pos) j) ≡ passed tokens end next p
   unfolding passed
-  passed-wrong u e a b c d = rw (e, ← a, ← b, c, d)
+  passed-wrong u j e a b c d f = rw (f, e, ← a, ← b, c, d)
 
   pub passed-on : p ≡ Accepted i n k → t ≡ tokenAt tokens end next → r ≡ isSymbol t → r ≡ false → Accepted next n k ≡ passed tokens end next p
   unfolding passed

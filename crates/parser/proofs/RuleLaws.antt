@@ -50,9 +50,9 @@ unfolding refusedAt
 place-stays code place (Accepted i n k) o = absurd (omega arith)
 place-stays code place (Refused e) o = refl
 
-pub place-refused : (code place : ℕ) (p : Parsed) (i n k : ℕ) → p ≡ Accepted i n k → Refused (refusal code place (i + 1)) ≡ refusedAt code place p
+pub place-refused : (code place : ℕ) (p : Parsed) (i n k j : ℕ) → p ≡ Accepted i n k → j ≡ i + 1 → Refused (refusal code place j) ≡ refusedAt code place p
 unfolding refusedAt
-place-refused code place p i n k e = rw e
+place-refused code place p i n k j e f = rw (e, f)
 
 -- ---- the priority
 

@@ -2,6 +2,7 @@
 use exprs::iflets::parse_iflet_or_expr;
 use exprs::iflets::parse_iflets;
 use patterns::parse_pattern;
+use reader::after;
 use steps::Parsed;
 use steps::Refusal;
 use steps::close_at;
@@ -65,15 +66,15 @@ fn rule_priority(
                 word1: t.word2,
                 word2: 0,
             };
-            return put_leaf(out, p, h);
+            return put_leaf(tokens, out, p, h);
         }
-        return refuse_place(p, 24, place);
+        return refuse_place(tokens, p, 24, place);
     }
     p
 }
 
 // A refusal at a place, the next token consumed.
-fn refuse_place(p: Parsed, code: u8, place: u32) -> Parsed
+fn refuse_place(tokens: &[u8], p: Parsed, code: u8, place: u32) -> Parsed
     requires { ⌜ Near p ⌝ }
     ensures { λ r. ⌜ r ≡ refusedAt code place p ⌝ }
 {
@@ -83,7 +84,7 @@ fn refuse_place(p: Parsed, code: u8, place: u32) -> Parsed
     Parsed::Refused(Refusal {
         code,
         place,
-        taken: next + 1,
+        taken: after(tokens, next),
     })
 }
 

@@ -1,4 +1,7 @@
 // Types: parse_type, parse_typevalue, parse_type_variant, parse_fields and what they read.
+use reader::after;
+use reader::peek;
+use reader::peek_second;
 use steps::Parsed;
 use steps::Refusal;
 use steps::close;
@@ -13,7 +16,6 @@ use steps::parse_ident;
 use steps::refuse_after;
 use steps::second_token;
 use tokens::Token;
-use tokens::peek;
 use trees::Head;
 ghost use mathlib.Core.Path.{_≡_};
 ghost use Prim.Native.Nat.{ℕ, _+_, _-_, _/_, _≤_, _<_};
@@ -270,7 +272,7 @@ fn modifiers_from(tokens: &[u8], text: &[u8], end: u32, from: usize) -> Modifier
         }
         e = t.e;
         n = t.n;
-        at += 1;
+        at = after(tokens, at);
     }
     Modifiers {
         flags: e + n,
@@ -286,7 +288,7 @@ fn modifiers_after(tokens: &[u8], text: &[u8], end: u32, p: Parsed) -> Modifiers
     let Parsed::Accepted { next, count: _, items: _ } = p else {
         return Modifiers { flags: 0, next: 0 };
     };
-    modifiers_from(tokens, text, end, next + 1)
+    modifiers_from(tokens, text, end, after(tokens, next))
 }
 
 // The state after the modifiers, which end at an index.
@@ -299,11 +301,11 @@ fn pass_modifiers(tokens: &[u8], end: u32, name: Parsed, next: usize) -> Parsed
     };
     let t = peek(tokens, end, next);
     if t.is_symbol() {
-        let place = peek(tokens, end, next + 1).pos;
+        let place = peek_second(tokens, end, next).pos;
         return Parsed::Refused(Refusal {
             code: 18,
             place,
-            taken: next + 1,
+            taken: after(tokens, next),
         });
     }
     Parsed::Accepted { next, count, items }

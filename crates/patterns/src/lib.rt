@@ -50,7 +50,7 @@ pub fn parse_pattern(
             word1: t.word1,
             word2: t.word2,
         };
-        return put_leaf(out, p, h);
+        return put_leaf(tokens, out, p, h);
     }
     if t.is_const(text) {
         return const_node(tokens, text, end, out, p, Head::PATTERN_CONST);

@@ -105,33 +105,33 @@ unfolding unexpected
 token-unexpected t i e = rw (ne-eqb (t .kind) 0 e)
 
 module _ (tokens : List ℕ) (end i n k : ℕ) (t : Token) (p : Parsed) (test : Token → Bool) (r : Bool) where
-  pub expect-met : p ≡ Accepted i n k → t ≡ tokenAt tokens end i → r ≡ test t → r ≡ true → Accepted (i + 1) n k ≡ moved (expectAt tokens end test) p
+  pub expect-met : (j : ℕ) → p ≡ Accepted i n k → t ≡ tokenAt tokens end i → r ≡ test t → r ≡ true → j ≡ i + 1 → Accepted j n k ≡ moved (expectAt tokens end test) p
   unfolding moved expectAt movedTo
-  expect-met e a b c = rw (e, ← a, ← b, c)
+  expect-met j e a b c f = rw (f, e, ← a, ← b, c)
 
   pub expect-refused : (u : Refusal) → p ≡ Accepted i n k → t ≡ tokenAt tokens end i → r ≡ test t → r ≡ false → u ≡ unexpected t i → Refused u ≡ moved (expectAt tokens end test) p
   unfolding moved expectAt movedTo
   expect-refused u e a b c d = rw (d, e, ← a, ← b, c)
 
 -- a token that passes the test of a kind stands inside the list
-next-there : (tokens : List ℕ) (end i k : ℕ) (t : Token) (r : Bool) → t ≡ tokenAt tokens end i → r ≡ eqb (t .kind) k → r ≡ true → 0 < k → length tokens < 2 ^ 64 → Fits w64 (i + 1)
+next-there : (tokens : List ℕ) (end i k : ℕ) (t : Token) (r : Bool) → t ≡ tokenAt tokens end i → r ≡ eqb (t .kind) k → r ≡ true → 0 < k → length tokens < 2 ^ 64 → i < 2 ^ 63
 next-there tokens end i k t r a b c z h =
     let x : t .kind ≡ k = eqb-true (t .kind) k (sym b ∙ c) in
     omega (arith, kind-inside tokens end i k (ap (λ (y : Token). y .kind) (sym a) ∙ x) z)
 
 module _ (tokens : List ℕ) (end i : ℕ) (t : Token) (r : Bool) where
-  pub lparen-fits : t ≡ tokenAt tokens end i → r ≡ isLparen t → r ≡ true → length tokens < 2 ^ 64 → Fits w64 (i + 1)
+  pub lparen-fits : t ≡ tokenAt tokens end i → r ≡ isLparen t → r ≡ true → length tokens < 2 ^ 64 → i < 2 ^ 63
   unfolding isLparen
   lparen-fits a b c h = next-there tokens end i 1 t r a b c (omega arith) h
 
-  pub rparen-fits : t ≡ tokenAt tokens end i → r ≡ isRparen t → r ≡ true → length tokens < 2 ^ 64 → Fits w64 (i + 1)
+  pub rparen-fits : t ≡ tokenAt tokens end i → r ≡ isRparen t → r ≡ true → length tokens < 2 ^ 64 → i < 2 ^ 63
   unfolding isRparen
   rparen-fits a b c h = next-there tokens end i 2 t r a b c (omega arith) h
 
-  pub word-fits : (text w : List ℕ) → t ≡ tokenAt tokens end i → r ≡ isWord text w t → r ≡ true → length tokens < 2 ^ 64 → Fits w64 (i + 1)
+  pub word-fits : (text w : List ℕ) → t ≡ tokenAt tokens end i → r ≡ isWord text w t → r ≡ true → length tokens < 2 ^ 64 → i < 2 ^ 63
   word-fits text w a b c h = next-there tokens end i 3 t true a (sym (eq-eqb (t .kind) 3 (word-kind text w t (sym b ∙ c)))) refl (omega arith) h
 
-  pub at-fits : t ≡ tokenAt tokens end i → r ≡ isAt t → r ≡ true → length tokens < 2 ^ 64 → Fits w64 (i + 1)
+  pub at-fits : t ≡ tokenAt tokens end i → r ≡ isAt t → r ≡ true → length tokens < 2 ^ 64 → i < 2 ^ 63
   unfolding isAt
   at-fits a b c h = next-there tokens end i 5 t r a b c (omega arith) h
 
@@ -153,18 +153,18 @@ pub const-plain : (s : List ℕ) (c x : ℕ) → c ≡ identRefusal s → c ≡ 
 unfolding constRefusal
 const-plain s c x e h f g = rw (← e, eq-eqb c 0 h, ← f, ne-eqb x 36 g)
 
-pub ident-refused : (t : Token) (range c i n k : ℕ) (l : List ℕ) → (c ≡ 0 → ⊥) → Met (identAt t range c i) n k l l (Refused (refusal c (t .pos) (i + 1)))
+pub ident-refused : (t : Token) (range c i n k j : ℕ) (l : List ℕ) → j ≡ i + 1 → (c ≡ 0 → ⊥) → Met (identAt t range c i) n k l l (Refused (refusal c (t .pos) j))
 unfolding Met identAt
-ident-refused t range c i n k l h = rw (ne-eqb c 0 h) refl
+ident-refused t range c i n k j l f h = rw (f, ne-eqb c 0 h) refl
 
-pub ident-put : (t : Token) (range c i n k : ℕ) (l l′ : List ℕ) → c ≡ 0 → l′ ≡ put l n (recordOf (head 24 0 (t .pos) range 0) 0) → Met (identAt t range c i) n k l l′ (Accepted (i + 1) (n + 1) (k + 1))
+pub ident-put : (t : Token) (range c i n k j m : ℕ) (l l′ : List ℕ) → j ≡ i + 1 → m ≡ n + 1 → c ≡ 0 → l′ ≡ put l n (recordOf (head 24 0 (t .pos) range 0) 0) → Met (identAt t range c i) n k l l′ (Accepted j m (k + 1))
 unfolding Met identAt
-ident-put t range c i n k l l′ h e =
+ident-put t range c i n k j m l l′ f g h e =
     let name = head 24 0 (t .pos) range 0 in
     rw (eq-eqb c 0 h)
     (record {
-      ends = refl;
-      counted = omega (arith, size-one (node name ∅), size-node name ∅, size-none);
+      ends = f;
+      counted = omega (arith, g, size-one (node name ∅), size-node name ∅, size-none);
       rows = omega (arith, count-one (node name ∅));
       wrote = e ∙ ap (λ (x : List ℕ). put x n (recordOf name 0)) (sym (writes-none l (n + 1))) ∙ ap (λ (x : ℕ). put (writes l (n + 1) (recordsAll ∅)) n (recordOf name x)) (sym count-none) ∙ writes-node name ∅ l n;
     })
@@ -197,10 +197,10 @@ module _ (tokens text : List ℕ) (end i n k : ℕ) (p : Parsed) (t : Token) (r 
   const-read l′ b c x e a q v d j z m =
       by-name (input tokens text end) constRefusal (λ w. w + 4294967295) (parseConst (input tokens text end)) (const-is (input tokens text end)) i n k p t r l l′ b c x e a q v d j (rw z m)
 
-  pub const-refused : (b : List ℕ) (c : ℕ) → p ≡ Accepted i n k → t ≡ tokenAt tokens end i → r ≡ isSymbol t → r ≡ true → b ≡ spelled text (t .word1) → c ≡ constRefusal b → (c ≡ 0 → ⊥) → Chained (parseConst (input tokens text end)) p l l (Refused (refusal c (t .pos) (i + 1)))
-  const-refused b c e a q v d j z =
-      by-name (input tokens text end) constRefusal (λ w. w + 4294967295) (parseConst (input tokens text end)) (const-is (input tokens text end)) i n k p t r l l b c (Refused (refusal c (t .pos) (i + 1))) e a q v d j
-      (ident-refused t (t .word1 + 4294967295) c i n k l z)
+  pub const-refused : (b : List ℕ) (c j : ℕ) → p ≡ Accepted i n k → t ≡ tokenAt tokens end i → r ≡ isSymbol t → r ≡ true → b ≡ spelled text (t .word1) → c ≡ constRefusal b → (c ≡ 0 → ⊥) → j ≡ i + 1 → Chained (parseConst (input tokens text end)) p l l (Refused (refusal c (t .pos) j))
+  const-refused b c j e a q v d g z f =
+      by-name (input tokens text end) constRefusal (λ w. w + 4294967295) (parseConst (input tokens text end)) (const-is (input tokens text end)) i n k p t r l l b c (Refused (refusal c (t .pos) j)) e a q v d g
+      (ident-refused t (t .word1 + 4294967295) c i n k j l f z)
 
   pub const-other : (u : Refusal) → p ≡ Accepted i n k → t ≡ tokenAt tokens end i → r ≡ isSymbol t → r ≡ false → u ≡ unexpected t i → Chained (parseConst (input tokens text end)) p l l (Refused u)
   const-other = by-other (input tokens text end) constRefusal (λ w. w + 4294967295) (parseConst (input tokens text end)) (const-is (input tokens text end)) i n k p t r l
@@ -213,7 +213,7 @@ ready-at c s p i n k h e = subst (λ (x : Parsed). Ready c s x) e h
 pub ready-below : (c : ℕ) (s : Input) (p : Parsed) (i n k : ℕ) → Ready c s p → p ≡ Accepted i n k → Below i n k
 ready-below c s p i n k h e = let a = ready-at c s p i n k h e in record { at = omega (arith, a .few, a .here); slot = omega (arith, a .few, a .here, a .room, a .slack); row = omega (arith, a .few, a .here, a .kids) }
 
-pub next-fits : (c : ℕ) (s : Input) (p : Parsed) (i n k : ℕ) → Ready c s p → p ≡ Accepted i n k → Fits w64 (i + 1)
+pub next-fits : (c : ℕ) (s : Input) (p : Parsed) (i n k : ℕ) → Ready c s p → p ≡ Accepted i n k → i < 2 ^ 63
 next-fits c s p i n k h e = let a = ready-at c s p i n k h e in omega (arith, a .few, a .here)
 
 pub slot-fits : (c : ℕ) (s : Input) (p : Parsed) (i n k : ℕ) → Ready c s p → p ≡ Accepted i n k → Fits w64 (n + 1)
@@ -252,9 +252,9 @@ pub closed-put : (h : Head) (p q : Parsed) (l l′ : List ℕ) (i n k j m c : �
 unfolding Closed
 closed-put h p q l l′ i n k j m c d e f = rw (d, e) (refl, f)
 
-pub leafed-put : (h : Head) (p : Parsed) (l l′ : List ℕ) (i n k : ℕ) (r : Parsed) → p ≡ Accepted i n k → Closed h (Accepted i n k) (Accepted (i + 1) (n + 1) 0) l l′ r → Leafed h p l l′ r
+pub leafed-put : (h : Head) (p : Parsed) (l l′ : List ℕ) (i n k j : ℕ) (r : Parsed) → p ≡ Accepted i n k → j ≡ i + 1 → Closed h (Accepted i n k) (Accepted j (n + 1) 0) l l′ r → Leafed h p l l′ r
 unfolding Closed Leafed
-leafed-put h p l l′ i n k r e c = rw e c
+leafed-put h p l l′ i n k j r e f c = rw (e, ← f) c
 
 pub refused-here : (tokens : List ℕ) (end code : ℕ) (p : Parsed) (i n k : ℕ) (t : Token) → p ≡ Accepted i n k → t ≡ tokenAt tokens end i → Refused (refusal code (t .pos) i) ≡ moved (refuseFrom tokens end code) p
 unfolding moved movedTo refuseFrom
@@ -273,7 +273,7 @@ unfolding Near
 near-at p i n k h e = subst (λ (x : Parsed). Near x) e h
 
 module _ (p : Parsed) (i n k : ℕ) (h : Near p) (e : p ≡ Accepted i n k) where
-  pub near-next : Fits w64 (i + 1)
+  pub near-next : i < 2 ^ 63
   near-next = omega (arith, near-at p i n k h e .at)
 
   pub near-slot : Fits w64 (n + 1)
@@ -312,9 +312,9 @@ flags-second tokens text w end (Accepted i n k) r e = sym (one-eaten (input toke
 flags-second tokens text w end (Refused x) r e = tt
 
 module _ (tokens text w : List ℕ) (end i : ℕ) (t : Token) (r : Bool) where
-  pub ate-word : t ≡ tokenAt tokens end i → r ≡ isWord text w t → r ≡ true → i + 1 ≡ ate (input tokens text end) w i
+  pub ate-word : (j : ℕ) → t ≡ tokenAt tokens end i → r ≡ isWord text w t → r ≡ true → j ≡ i + 1 → j ≡ ate (input tokens text end) w i
   unfolding ate
-  ate-word a b c = rw (← a, ← b, c)
+  ate-word j a b c f = rw (f, ← a, ← b, c)
 
   pub ate-nothing : t ≡ tokenAt tokens end i → r ≡ isWord text w t → r ≡ false → i ≡ ate (input tokens text end) w i
   unfolding ate
@@ -361,9 +361,9 @@ module _ (tokens text : List ℕ) (end code i n k : ℕ) (p : Parsed) (t : Token
   other-other = by-other (input tokens text end) (refusedAs code) (λ w. w) (nameBy (input tokens text end) (refusedAs code) (λ w. w)) (λ j. refl) i n k p t r l
 
 module _ (tokens text : List ℕ) (end kind code i n k : ℕ) (p : Parsed) (t : Token) where
-  pub after-kind : p ≡ Accepted i n k → t ≡ tokenAt tokens end i → t .kind ≡ kind → Refused (refusal code (t .pos) (i + 1)) ≡ moved (refuseAfter (input tokens text end) kind code) p
+  pub after-kind : (j : ℕ) → p ≡ Accepted i n k → t ≡ tokenAt tokens end i → t .kind ≡ kind → j ≡ i + 1 → Refused (refusal code (t .pos) j) ≡ moved (refuseAfter (input tokens text end) kind code) p
   unfolding moved movedTo refuseAfter
-  after-kind e a h = let g : tokenAt tokens end i .kind ≡ kind = rw a at h in rw (e, a, eq-eqb (tokenAt tokens end i .kind) kind g)
+  after-kind j e a h f = let g : tokenAt tokens end i .kind ≡ kind = rw a at h in rw (f, e, a, eq-eqb (tokenAt tokens end i .kind) kind g)
 
   pub after-other : (u : Refusal) → p ≡ Accepted i n k → t ≡ tokenAt tokens end i → (t .kind ≡ kind → ⊥) → u ≡ unexpected t i → Refused u ≡ moved (refuseAfter (input tokens text end) kind code) p
   unfolding moved movedTo refuseAfter
@@ -371,6 +371,9 @@ module _ (tokens text : List ℕ) (end kind code i n k : ℕ) (p : Parsed) (t : 
 
 pub near-at-next : (p : Parsed) (i n k : ℕ) → Near p → p ≡ Accepted i n k → i < 4294967296
 near-at-next p i n k h e = near-at p i n k h e .at
+
+pub near-at-slot : (p : Parsed) (i n k : ℕ) → Near p → p ≡ Accepted i n k → n < 4294967296
+near-at-slot p i n k h e = near-at p i n k h e .slot
 
 pub no-pragma : (s : List ℕ) (c : ℕ) → c ≡ identRefusal s → c ≡ 0 → 17 ≡ pragmaRefusal s
 unfolding pragmaRefusal

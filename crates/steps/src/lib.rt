@@ -1,10 +1,13 @@
 // The parser's state by value, and the steps that every parse function is made of: a token expected, a name read, a node closed.
-use records::put;
+// Tokens are read and passed through `reader`, records are written through `tally`.
+use reader::after;
+use reader::peek;
+use reader::peek_second;
+use tally::emit_at;
 use tokens::Token;
 use tokens::names::first_byte;
 use tokens::names::ident_refusal;
 use tokens::names::spelling;
-use tokens::peek;
 use trees::Head;
 use trees::Rec;
 ghost use mathlib.Core.Path.{_≡_};
@@ -60,7 +63,7 @@ pub fn expect_lparen(tokens: &[u8], end: u32, p: Parsed) -> Parsed
     let t = peek(tokens, end, next);
     if t.is_lparen() {
         return Parsed::Accepted {
-            next: next + 1,
+            next: after(tokens, next),
             count,
             items,
         };
@@ -77,7 +80,7 @@ pub fn expect_rparen(tokens: &[u8], end: u32, p: Parsed) -> Parsed
     let t = peek(tokens, end, next);
     if t.is_rparen() {
         return Parsed::Accepted {
-            next: next + 1,
+            next: after(tokens, next),
             count,
             items,
         };
@@ -94,7 +97,7 @@ pub fn expect_at(tokens: &[u8], end: u32, p: Parsed) -> Parsed
     let t = peek(tokens, end, next);
     if t.is_at() {
         return Parsed::Accepted {
-            next: next + 1,
+            next: after(tokens, next),
             count,
             items,
         };
@@ -112,7 +115,7 @@ pub fn expect_word(tokens: &[u8], text: &[u8], end: u32, p: Parsed, w: &[u8]) ->
     let t = peek(tokens, end, next);
     if t.is_word(text, w) {
         return Parsed::Accepted {
-            next: next + 1,
+            next: after(tokens, next),
             count,
             items,
         };
@@ -138,7 +141,7 @@ pub fn second_token(tokens: &[u8], end: u32, p: Parsed) -> Token
     let Parsed::Accepted { next, count: _, items: _ } = p else {
         return past_last(end);
     };
-    peek(tokens, end, next + 1)
+    peek_second(tokens, end, next)
 }
 
 fn past_last(end: u32) -> Token
@@ -179,6 +182,7 @@ fn const_refusal(s: &[u8]) -> u8
 
 // The Ident of the token t at an index, at slot n after `items` trees of its row; or the refusal c where that is not 0.
 fn put_ident(
+    tokens: &[u8],
     out: &mut [u8],
     at: usize,
     n: usize,
@@ -190,14 +194,15 @@ fn put_ident(
     requires { ⌜ Below at n items ⌝ }
     ensures { λ r. ⌜ Met (identAt t range c at) n items (now (out .entry)) (now (out .exit)) r ⌝ }
 {
+    let next = after(tokens, at);
     if c != 0 {
         return Parsed::Refused(Refusal {
             code: c,
             place: t.pos,
-            taken: at + 1,
+            taken: next,
         });
     }
-    put(
+    let count = emit_at(
         out,
         n,
         Rec {
@@ -210,8 +215,8 @@ fn put_ident(
         },
     );
     Parsed::Accepted {
-        next: at + 1,
-        count: n + 1,
+        next,
+        count,
         items: items + 1,
     }
 }
@@ -226,7 +231,7 @@ pub fn parse_ident(tokens: &[u8], text: &[u8], end: u32, out: &mut [u8], p: Pars
     let t = peek(tokens, end, next);
     if t.is_symbol() {
         let c = ident_refusal(spelling(text, t.word1));
-        return put_ident(out, next, count, items, t, t.word1, c);
+        return put_ident(tokens, out, next, count, items, t, t.word1, c);
     }
     Parsed::Refused(unexpected(t, next))
 }
@@ -243,12 +248,12 @@ pub fn parse_const(tokens: &[u8], text: &[u8], end: u32, out: &mut [u8], p: Pars
     if t.is_symbol() {
         let c = const_refusal(spelling(text, t.word1));
         if c == 0 {
-            return put_ident(out, next, count, items, t, t.word1 + 4294967295, 0);
+            return put_ident(tokens, out, next, count, items, t, t.word1 + 4294967295, 0);
         }
         return Parsed::Refused(Refusal {
             code: c,
             place: t.pos,
-            taken: next + 1,
+            taken: after(tokens, next),
         });
     }
     Parsed::Refused(unexpected(t, next))
@@ -269,7 +274,8 @@ pub fn inside(p: Parsed) -> Parsed
     }
 }
 
-// The node h, begun at p, over the children that q has read.
+// The node h, begun at p, over the children that q has read. Its record goes to the slot that was left free for it; the number
+// after that one is not taken, since the children were counted already.
 pub fn close(out: &mut [u8], p: Parsed, h: Head, q: Parsed) -> Parsed
     requires { ⌜ Near p ⌝ }
     requires { ⌜ Small q ⌝ }
@@ -281,7 +287,7 @@ pub fn close(out: &mut [u8], p: Parsed, h: Head, q: Parsed) -> Parsed
     let Parsed::Accepted { next, count, items: k } = q else {
         return q;
     };
-    put(
+    emit_at(
         out,
         n,
         Rec {
@@ -326,7 +332,7 @@ pub fn close_at(
 }
 
 // A node without children, of one token.
-pub fn put_leaf(out: &mut [u8], p: Parsed, h: Head) -> Parsed
+pub fn put_leaf(tokens: &[u8], out: &mut [u8], p: Parsed, h: Head) -> Parsed
     requires { ⌜ Near p ⌝ }
     ensures { λ r. ⌜ Leafed h p (now (out .entry)) (now (out .exit)) r ⌝ }
 {
@@ -334,7 +340,7 @@ pub fn put_leaf(out: &mut [u8], p: Parsed, h: Head) -> Parsed
         return p;
     };
     let q = Parsed::Accepted {
-        next: next + 1,
+        next: after(tokens, next),
         count: count + 1,
         items: 0,
     };
@@ -366,7 +372,7 @@ pub fn leaf_at(
         word1: 0,
         word2: 0,
     };
-    put_leaf(out, p, h)
+    put_leaf(tokens, out, p, h)
 }
 
 // A refusal at the next token.
@@ -435,7 +441,7 @@ pub fn parse_name_or(
     let t = peek(tokens, end, next);
     if t.is_symbol() {
         let c = refused_as(code, spelling(text, t.word1));
-        return put_ident(out, next, count, items, t, t.word1, c);
+        return put_ident(tokens, out, next, count, items, t, t.word1, c);
     }
     Parsed::Refused(unexpected(t, next))
 }
@@ -462,7 +468,7 @@ pub fn refuse_after(tokens: &[u8], text: &[u8], end: u32, p: Parsed, kind: u8, c
         return Parsed::Refused(Refusal {
             code,
             place: t.pos,
-            taken: next + 1,
+            taken: after(tokens, next),
         });
     }
     Parsed::Refused(unexpected(t, next))
@@ -475,7 +481,7 @@ pub fn ate(tokens: &[u8], text: &[u8], end: u32, at: usize, w: &[u8]) -> usize
 {
     let t = peek(tokens, end, at);
     if t.is_word(text, w) {
-        return at + 1;
+        return after(tokens, at);
     }
     at
 }
@@ -542,7 +548,7 @@ pub fn parse_pragma_name(tokens: &[u8], text: &[u8], end: u32, out: &mut [u8], p
     let t = peek(tokens, end, next);
     if t.is_symbol() {
         let c = pragma_refusal(spelling(text, t.word1));
-        return put_ident(out, next, count, items, t, t.word1, c);
+        return put_ident(tokens, out, next, count, items, t, t.word1, c);
     }
     Parsed::Refused(unexpected(t, next))
 }

@@ -9,8 +9,8 @@ peek-requires c κs = search needs
 is-word-requires : tie.Need-is-word-requires
 is-word-requires c κs = search needs
 
-add-result : tie.Need-add-result
-add-result c = search needs
+after-requires : tie.Need-after-requires
+after-requires c κs = search needs
 
 returns : tie.Need-returns
 returns c = search ate-word
@@ -19,4 +19,4 @@ returns-2 : tie.Need-returns-2
 returns-2 c = search ate-nothing
 
 pub ate-spec : {M : Type 1} → statement M
-ate-spec = tie.close (tie.spec peek-requires is-word-requires add-result returns returns-2)
+ate-spec = tie.close (tie.spec peek-requires is-word-requires after-requires returns returns-2)

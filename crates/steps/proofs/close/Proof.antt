@@ -1,4 +1,4 @@
-use Rattle.steps.proofs.StepLaws.{closed-outer, closed-inner, closed-put, small-count, near-row}
+use Rattle.steps.proofs.StepLaws.{closed-outer, closed-inner, closed-put, small-count, near-row, near-at-slot}
 use borrow.Author.Needs.{needs}
 use Rattle.steps.proofs.close.Statement.{statement}
 use Rattle.steps.proofs.close.Tie as tie
@@ -24,11 +24,11 @@ returns-2 c = search closed-inner
 cast-t13 : tie.Need-cast-t13
 cast-t13 c = search small-count
 
-put-requires : tie.Need-put-requires
-put-requires c κs = search needs
+emit-at-requires : tie.Need-emit-at-requires
+emit-at-requires c κs = search near-at-slot
 
-add-t15 : tie.Need-add-t15
-add-t15 c = search near-row
+add-t10 : tie.Need-add-t10
+add-t10 c = search near-row
 
 same-length : tie.Need-same-length
 same-length c = search needs
@@ -47,7 +47,7 @@ close-spec =
     enum-told-2
     returns-2
     cast-t13
-    put-requires
-    add-t15
+    emit-at-requires
+    add-t10
     same-length
     returns-3)

@@ -18,8 +18,8 @@ peek-requires c κs = search needs
 is-rparen-requires : tie.Need-is-rparen-requires
 is-rparen-requires c κs = search needs
 
-add-t9 : tie.Need-add-t9
-add-t9 c = search rparen-fits
+after-requires : tie.Need-after-requires
+after-requires c κs = search rparen-fits
 
 returns-2 : tie.Need-returns-2
 returns-2 c = search expect-met
@@ -39,7 +39,7 @@ expect-rparen-spec =
     returns
     peek-requires
     is-rparen-requires
-    add-t9
+    after-requires
     returns-2
     unexpected-requires
     returns-3)

@@ -18,8 +18,8 @@ peek-requires c κs = search needs
 is-word-requires : tie.Need-is-word-requires
 is-word-requires c κs = search needs
 
-add-t11 : tie.Need-add-t11
-add-t11 c = search word-fits
+after-requires : tie.Need-after-requires
+after-requires c κs = search word-fits
 
 returns-2 : tie.Need-returns-2
 returns-2 c = search expect-met
@@ -39,7 +39,7 @@ expect-word-spec =
     returns
     peek-requires
     is-word-requires
-    add-t11
+    after-requires
     returns-2
     unexpected-requires
     returns-3)

@@ -36,8 +36,8 @@ same-length c = search needs
 returns-2 : tie.Need-returns-2
 returns-2 c = search const-read
 
-add-t17 : tie.Need-add-t17
-add-t17 c = search next-fits
+after-requires : tie.Need-after-requires
+after-requires c κs = search next-fits
 
 returns-3 : tie.Need-returns-3
 returns-3 c = search const-refused
@@ -63,7 +63,7 @@ parse-const-spec =
     put-ident-requires
     same-length
     returns-2
-    add-t17
+    after-requires
     returns-3
     unexpected-requires
     returns-4)

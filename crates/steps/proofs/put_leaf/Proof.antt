@@ -12,11 +12,11 @@ enum-told c = search needs
 returns : tie.Need-returns
 returns c = search leafed-stays
 
-add-t8 : tie.Need-add-t8
-add-t8 c = search near-next
+after-requires : tie.Need-after-requires
+after-requires c κs = search near-next
 
-add-t9 : tie.Need-add-t9
-add-t9 c = search near-slot
+add-t10 : tie.Need-add-t10
+add-t10 c = search near-slot
 
 close-requires : tie.Need-close-requires
 close-requires c κs = (search near-here, search small-none)
@@ -30,4 +30,4 @@ returns-2 c = search leafed-put
 pub put-leaf-spec : {M : Type 1} → statement M
 put-leaf-spec =
     tie.close
-    (tie.spec enum-known-p enum-told returns add-t8 add-t9 close-requires same-length returns-2)
+    (tie.spec enum-known-p enum-told returns after-requires add-t10 close-requires same-length returns-2)

@@ -15,8 +15,8 @@ returns c = search moved-stays
 peek-requires : tie.Need-peek-requires
 peek-requires c κs = search needs
 
-add-t10 : tie.Need-add-t10
-add-t10 c = search near-next
+after-requires : tie.Need-after-requires
+after-requires c κs = search near-next
 
 returns-2 : tie.Need-returns-2
 returns-2 c = search after-kind
@@ -35,7 +35,7 @@ refuse-after-spec =
     enum-told
     returns
     peek-requires
-    add-t10
+    after-requires
     returns-2
     unexpected-requires
     returns-3)

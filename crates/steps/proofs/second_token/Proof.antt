@@ -15,11 +15,8 @@ past-last-requires c κs = search needs
 returns : tie.Need-returns
 returns c = search second-refused
 
-add-peek : tie.Need-add-peek
-add-peek c = search near-next
-
-peek-requires : tie.Need-peek-requires
-peek-requires c κs = search needs
+peek-second-requires : tie.Need-peek-second-requires
+peek-second-requires c κs = search near-next
 
 returns-2 : tie.Need-returns-2
 returns-2 c = search second-is
@@ -27,4 +24,4 @@ returns-2 c = search second-is
 pub second-token-spec : {M : Type 1} → statement M
 second-token-spec =
     tie.close
-    (tie.spec enum-known-p enum-told past-last-requires returns add-peek peek-requires returns-2)
+    (tie.spec enum-known-p enum-told past-last-requires returns peek-second-requires returns-2)

@@ -13,11 +13,11 @@ enum-told c = search needs
 returns : tie.Need-returns
 returns c = search place-stays
 
-add-t5 : tie.Need-add-t5
-add-t5 c = search near-next
+after-requires : tie.Need-after-requires
+after-requires c κs = search near-next
 
 returns-2 : tie.Need-returns-2
 returns-2 c = search place-refused
 
 pub refuse-place-spec : {M : Type 1} → statement M
-refuse-place-spec = tie.close (tie.spec enum-known-p enum-told returns add-t5 returns-2)
+refuse-place-spec = tie.close (tie.spec enum-known-p enum-told returns after-requires returns-2)

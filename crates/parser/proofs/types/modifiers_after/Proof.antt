@@ -13,8 +13,8 @@ enum-told c = search needs
 returns : tie.Need-returns
 returns c = search modified-refused
 
-add-modifiers-from : tie.Need-add-modifiers-from
-add-modifiers-from c = search next-fits
+after-requires : tie.Need-after-requires
+after-requires c κs = search next-fits
 
 modifiers-from-requires : tie.Need-modifiers-from-requires
 modifiers-from-requires c κs = (search from-near, search few-tokens)
@@ -25,4 +25,4 @@ returns-2 c = search modified-at
 pub modifiers-after-spec : {M : Type 1} → statement M
 modifiers-after-spec =
     tie.close
-    (tie.spec enum-known-p enum-told returns add-modifiers-from modifiers-from-requires returns-2)
+    (tie.spec enum-known-p enum-told returns after-requires modifiers-from-requires returns-2)

@@ -25,14 +25,14 @@ add-t12 c = search needs
 returns : tie.Need-returns Inv-loop μ-loop
 returns c = passing-stop _ _ _ _ _ _ _ _ (c .before .before .before .before .before .before .before .pre) (c .before .before .before .before .loop .inv) (c .before .before .before .loop-test .taken) (c .before .before .modifier .ensures) (not-true _ (c .if1 .taken))
 
-add-at : tie.Need-add-at Inv-loop μ-loop
-add-at c = search needs
+after-requires : tie.Need-after-requires Inv-loop μ-loop
+after-requires c κs = search needs
 
 loop-less : tie.Need-loop-less Inv-loop μ-loop
 loop-less c = search needs
 
 loop-again : tie.Need-loop-again Inv-loop μ-loop
-loop-again c = passing-on _ _ _ _ _ _ _ _ (c .before .before .before .before .loop .inv) (c .before .before .before .loop-test .taken) (c .before .before .modifier .ensures) (not-false _ (c .if1 .left))
+loop-again c = passing-on _ _ _ _ _ _ _ _ (c .before .before .before .before .before .loop .inv) (c .before .before .before .before .loop-test .taken) (c .before .before .before .modifier .ensures) (not-false _ (c .before .if1 .left)) _ (c .after .ensures)
 
 add-t13 : tie.Need-add-t13 Inv-loop μ-loop
 add-t13 c = search needs
@@ -50,7 +50,7 @@ modifiers-from-spec =
     modifier-requires
     add-t12
     returns
-    add-at
+    after-requires
     loop-less
     loop-again
     add-t13

@@ -18,14 +18,11 @@ peek-requires c κs = search needs
 is-symbol-requires : tie.Need-is-symbol-requires
 is-symbol-requires c κs = search needs
 
-add-peek : tie.Need-add-peek
-add-peek c = search needs
+peek-second-requires : tie.Need-peek-second-requires
+peek-second-requires c κs = search needs
 
-peek-requires-2 : tie.Need-peek-requires-2
-peek-requires-2 c κs = search needs
-
-add-t11 : tie.Need-add-t11
-add-t11 c = search needs
+after-requires : tie.Need-after-requires
+after-requires c κs = search needs
 
 returns-2 : tie.Need-returns-2
 returns-2 c = search passed-wrong
@@ -42,8 +39,7 @@ pass-modifiers-spec =
     returns
     peek-requires
     is-symbol-requires
-    add-peek
-    peek-requires-2
-    add-t11
+    peek-second-requires
+    after-requires
     returns-2
     returns-3)
