@@ -40,18 +40,19 @@ pub fn peek(tokens: &[u8], end: u32, at: usize) -> Token
     Reader { tokens, at }.peek(end)
 }
 
-// The token after the one at an index.
-pub fn peek_second(tokens: &[u8], end: u32, at: usize) -> Token
-    requires { ⌜ at < 2 ^ 63 ⌝ }
-    ensures { λ r. ⌜ r ≡ tokenAt (now (tokens .entry)) end (at + 1) ⌝ }
-{
-    Reader { tokens, at }.advance().peek(end)
-}
-
 // The index after the token at an index.
 pub fn after(tokens: &[u8], at: usize) -> usize
     requires { ⌜ at < 2 ^ 63 ⌝ }
     ensures { λ r. ⌜ r ≡ at + 1 ⌝ }
 {
     Reader { tokens, at }.advance().at
+}
+
+// The token after the one at an index.
+pub fn peek_second(tokens: &[u8], end: u32, at: usize) -> Token
+    requires { ⌜ at < 2 ^ 63 ⌝ }
+    ensures { λ r. ⌜ r ≡ tokenAt (now (tokens .entry)) end (at + 1) ⌝ }
+{
+    let next = after(tokens, at);
+    peek(tokens, end, next)
 }
