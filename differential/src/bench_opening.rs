@@ -34,6 +34,7 @@ fn text_case(text: &str) -> Case {
 
 fn texts() -> Vec<(&'static str, String)> {
     vec![
+        ("one rule of host/examples/gate.isle", one_rule()),
         ("1,250 calls", calls(1_250)),
         ("2,500 calls", calls(2_500)),
         ("5,000 calls", calls(5_000)),
@@ -58,6 +59,13 @@ fn texts() -> Vec<(&'static str, String)> {
         ("65,536 records, flat", flat()),
         ("65,536 records, 65,535 deep", deep()),
     ]
+}
+
+fn one_rule() -> String {
+    let extractors = "(extractor (at_left cow hours) (visit cow $LEFT hours))\
+                      (extractor (rested hours) (and hours (at_least 8)))\
+                      (extractor (welcome cow) (at_left cow (rested _)))";
+    format!("{extractors}(rule let_in 2 (welcome cow @ (ear_tag 4711)) (open_gate cow))")
 }
 
 fn calls(count: usize) -> String {
