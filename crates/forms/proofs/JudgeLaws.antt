@@ -1,6 +1,6 @@
 -- The ways through the tests of one record, in the code's terms. Assumes nothing.
 use mathlib.Core.Path.{_≡_, refl, sym}
-use mathlib.Core.Bool.{Bool, true, false, not}
+use mathlib.Core.Bool.{Bool, true, false, not, false≢true}
 use Prim.Native.Nat.{ℕ, zero, suc, _+_, _*_, _/_, _%_, _≤_, _<_}
 use native.Mathlib.Omega.{arith}
 use lib.Dec.{eqb, leb}
@@ -8,8 +8,10 @@ use borrow.Author.Tests.{eq-eqb, ne-eqb, eqb-true, eqb-false, lt-ltb, le-ltb, le
 use Rattle.trees.specs.declared.Rec.{Rec}
 use Rattle.trees.specs.Choice.{pick}
 use Rattle.forms.specs.declared.Row.{Row}
-use Rattle.forms.specs.Kinds.{none, tuple-field, index, integer, range}
-use Rattle.forms.specs.Forms.{placed, some, singles, positionOk, reach, wordsOk, stands}
+use Rattle.forms.specs.Kinds.{none, tuple-field, index, integer, range, rows, find, rowFor}
+use Rattle.forms.specs.Tests.{_and_}
+use Rattle.forms.specs.Stack.{NameTaken}
+use Rattle.forms.specs.Forms.{placed, one, run, some, singles, leading, sortsOf, positionOk, reach, wordsOk, stands}
 use Rattle.forms.proofs.TestLaws.{true-and, false-and, and-false}
 
 pub some-none : (s : ℕ) → s ≡ 0 → 0 ≡ some s
@@ -125,3 +127,12 @@ module _ (t s : ℕ) (w : Row) (r : Rec) where
   unfolding stands
   stands-all x y z n e f g h a b c d i =
       rw (lt-ltb 0 s (omega arith), true-and, ← e, not-false x b, true-and, lt-ltb (r .flags) (w .flags) c, true-and, ← f, not-false y d, true-and, ← g, not-false z i, true-and, h)
+
+-- an Ident where one is expected
+pub name-not : (t s : ℕ) (r : Rec) → NameTaken t s r false
+name-not t s r = record { stands = λ e. absurd (false≢true e); childless = λ e. absurd (false≢true e) }
+
+pub name-taken : (t s : ℕ) (r : Rec) → r .kind ≡ 24 → s ≡ 4 → r .flags ≡ 0 → r .count ≡ 0 → r .word2 ≡ 0
+    → NameTaken t s r (leb (r .word1 / 4294967296 + r .word1 % 4294967296) t)
+unfolding stands rowFor find rows placed positionOk wordsOk singles some sortsOf leading run one _and_
+name-taken t s r k e f c w = record { stands = λ y. rw (k, e, f, c, w, y); childless = λ y. rw (k, c) }

@@ -13,7 +13,7 @@ use Rattle.forms.specs.Tests.{_and_}
 use Rattle.forms.specs.Kinds.{rowFor}
 use Rattle.forms.specs.Forms.{sortsOf, children, stands, good, next, fits, singles}
 use Rattle.forms.specs.Lists.{left}
-use Rattle.forms.specs.Stack.{pending, Pushed}
+use Rattle.forms.specs.Stack.{pending, Pushed, NameTaken}
 use Rattle.forms.proofs.TestLaws.{true-and, false-and, and-false}
 use Rattle.forms.proofs.Exact.{enough, length-children, fits-short}
 use Rattle.forms.proofs.ListLaws.{left-more, left-none, left-all, length-left}
@@ -58,6 +58,18 @@ module _ (t base n : ℕ) (list stack : List ℕ) (top i below s : ℕ) (r : Rec
   pub scan-again : (stack′ : List ℕ) (top′ : ℕ) → Pushed stack stack′ below top′ (sortsOf w (r .count)) → not b ≡ false → fits t base (pending stack′ top′) (left list (i + 1)) ≡ f
   scan-again stack′ top′ q e =
       rw (pushed-row stack stack′ below top′ r w found q .holds, ← true-and (fits t base (children r ++ pending stack below) (left list (i + 1)))) (rw (← judged, not-false b e) at turn)
+
+-- an Ident is taken off without a look at its row
+module _ (t base n : ℕ) (list stack : List ℕ) (top i below s : ℕ) (r : Rec) (b f : Bool)
+    (read : r ≡ recAt list i) (want : s ≡ next base (pending stack top)) (under : below ≡ top - 1) (taken : NameTaken t s r b) (yes : b ≡ true)
+    (inv : fits t base (pending stack top) (left list i) ≡ f) (all : n ≡ slots list) (more : i < n) where
+  pub scan-name : fits t base (pending stack below) (left list (i + 1)) ≡ f
+  unfolding fits
+  scan-name =
+      let h : i < slots list = omega arith in
+      let e : good t s r and fits t base (children r ++ pending stack below) (left list (i + 1)) ≡ f
+          = rw (read, want, under, ← pending-rest stack top) (rw (left-more list i h) at inv) in
+      sym (true-and (fits t base (pending stack below) (left list (i + 1)))) ∙ (rw (taken .stands yes, taken .childless yes) at e)
 
 pub scan-end : (t base n : ℕ) (list stack : List ℕ) (top i : ℕ) (f : Bool) → fits t base (pending stack top) (left list i) ≡ f → n ≡ slots list → n ≤ i → top ≤ n - i → true ≡ f
 unfolding fits pending

@@ -12,7 +12,7 @@ ghost use lib.Dec.{eqb};
 ghost use Rattle.records.specs.Slots.{slots, recs};
 ghost use Rattle.forms.specs.Kinds.{pattern, definition, name};
 ghost use Rattle.forms.specs.Forms.{placed, one, run, some, singles, leading, sortsOf, positionOk, reach, wordsOk, stands, next, fits, isOne, isMany};
-ghost use Rattle.forms.specs.Stack.{pending, Pushed};
+ghost use Rattle.forms.specs.Stack.{pending, Pushed, NameTaken};
 
 // One where there is a child of the sort s.
 fn some(s: u8) -> usize
@@ -97,6 +97,28 @@ fn may_stand(t: usize, s: u32, w: Row, r: Rec) -> bool
         return false;
     }
     singles(w) <= r.count as usize
+}
+
+// Whether a record is an Ident that may stand where the sort s is expected: every third record or so is one, and it has no children.
+fn is_name(t: usize, s: u32, r: Rec) -> bool
+    ensures { λ y. ⌜ NameTaken t s r y ⌝ }
+{
+    if r.kind != 24 {
+        return false;
+    }
+    if s != 4 {
+        return false;
+    }
+    if r.flags != 0 {
+        return false;
+    }
+    if r.count != 0 {
+        return false;
+    }
+    if r.word2 != 0 {
+        return false;
+    }
+    (r.word1 / 4294967296 + r.word1 % 4294967296) as usize <= t
 }
 
 // Puts the sort s on the stack, where there is such a child. The new top.
@@ -197,6 +219,11 @@ fn scan(list: &[u8], t: usize, base: u32, stack: &mut [u32], at: usize) -> bool
         let r = rec_at(list, i);
         let s = expected(stack, top, base);
         let below = less(top);
+        if is_name(t, s, r) {
+            top = below;
+            i += 1;
+            continue;
+        }
         let w = row_of(&rows, r.kind, r.flags);
         if !may_stand(t, s, w, r) {
             return false;

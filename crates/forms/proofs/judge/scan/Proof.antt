@@ -6,7 +6,7 @@ use Rattle.records.specs.Slots.{recs}
 use Rattle.forms.specs.Forms.{fits}
 use Rattle.forms.specs.Lists.{left}
 use Rattle.forms.specs.Stack.{pending}
-use Rattle.forms.proofs.ScanLaws.{scan-first, scan-start, scan-no, scan-short, scan-again, scan-end, scan-enough}
+use Rattle.forms.proofs.ScanLaws.{scan-first, scan-start, scan-name, scan-no, scan-short, scan-again, scan-end, scan-enough}
 use Rattle.forms.proofs.judge.scan.Statement.{statement}
 use Rattle.forms.proofs.judge.scan.Tie as tie
 
@@ -37,6 +37,18 @@ expected-requires c κs = search needs
 less-requires : tie.Need-less-requires Inv-loop μ-loop
 less-requires c κs = search needs
 
+is-name-requires : tie.Need-is-name-requires Inv-loop μ-loop
+is-name-requires c κs = search needs
+
+add-i : tie.Need-add-i Inv-loop μ-loop
+add-i c = search needs
+
+loop-less : tie.Need-loop-less Inv-loop μ-loop
+loop-less c = search needs
+
+loop-again : tie.Need-loop-again Inv-loop μ-loop
+loop-again c = (search needs, search needs, search needs, search scan-name)
+
 row-of-requires : tie.Need-row-of-requires Inv-loop μ-loop
 row-of-requires c κs = search needs
 
@@ -52,14 +64,14 @@ returns-2 c = search scan-no
 cast-count : tie.Need-cast-count Inv-loop μ-loop
 cast-count c = search needs
 
-add-if3 : tie.Need-add-if3 Inv-loop μ-loop
-add-if3 c = search needs
+add-if4 : tie.Need-add-if4 Inv-loop μ-loop
+add-if4 c = search needs
 
-sub-if3 : tie.Need-sub-if3 Inv-loop μ-loop
-sub-if3 c = search needs
+sub-if4 : tie.Need-sub-if4 Inv-loop μ-loop
+sub-if4 c = search needs
 
-add-if3-2 : tie.Need-add-if3-2 Inv-loop μ-loop
-add-if3-2 c = search (needs, (c .before .before .before .before .before .before .before .before .before .before .loop .inv) .1, (c .before .before .before .before .before .before .before .before .before .before .before .before .before .slots .ensures), (c .before .before .before .before .before .before .before .before .before .before .before .before .before .before .before .before .pre) .0, (c .before .before .before .before .before .before .before .before .before .before .loop .inv) .2, (c .before .before .before .before .before .less .ensures))
+add-if4-2 : tie.Need-add-if4-2 Inv-loop μ-loop
+add-if4-2 c = search (needs, (c .before .before .before .before .before .before .before .before .before .before .before .before .loop .inv) .1, (c .before .before .before .before .before .before .before .before .before .before .before .before .before .before .before .slots .ensures), (c .before .before .before .before .before .before .before .before .before .before .before .before .before .before .before .before .before .before .pre) .0, (c .before .before .before .before .before .before .before .less .ensures))
 
 same-length-2 : tie.Need-same-length-2 Inv-loop μ-loop
 same-length-2 c = search needs
@@ -68,16 +80,16 @@ returns-3 : tie.Need-returns-3 Inv-loop μ-loop
 returns-3 c = search scan-short
 
 push-children-requires : tie.Need-push-children-requires Inv-loop μ-loop
-push-children-requires c κs = (search (needs, (c .before .before .before .before .before .before .before .before .before .before .before .before .loop .inv) .2, (c .before .before .before .before .before .before .before .before .before .before .before .before .before .before .before .slots .ensures), (c .before .before .before .before .before .before .before .before .before .before .before .before .before .before .before .before .before .before .pre) .0, (c .before .before .before .before .before .before .before .before .before .before .before .before .before .before .before .before .before .before .pre) .1, (c .before .if3 .left)), search scan-enough, search needs)
+push-children-requires c κs = (search (needs, (c .before .before .before .before .before .before .before .before .before .before .before .before .before .before .loop .inv) .2, (c .before .before .before .before .before .before .before .before .before .before .before .before .before .before .before .before .before .slots .ensures), (c .before .before .before .before .before .before .before .before .before .before .before .before .before .before .before .before .before .before .before .before .pre) .0, (c .before .before .before .before .before .before .before .before .before .before .before .before .before .before .before .before .before .before .before .before .pre) .1, (c .before .if4 .left)), search scan-enough, search needs)
 
-add-i : tie.Need-add-i Inv-loop μ-loop
-add-i c = search needs
+add-i-2 : tie.Need-add-i-2 Inv-loop μ-loop
+add-i-2 c = search (needs, (c .before .before .before .before .before .before .before .before .before .before .before .before .before .before .before .before .loop-test .taken), (c .before .before .before .before .before .before .before .before .before .before .before .before .before .before .before .before .before .before .before .before .slots .ensures), (c .before .before .before .before .before .before .before .before .before .before .before .before .before .before .before .before .before .before .before .before .before .before .before .pre) .0)
 
-loop-less : tie.Need-loop-less Inv-loop μ-loop
-loop-less c = search needs
+loop-less-2 : tie.Need-loop-less-2 Inv-loop μ-loop
+loop-less-2 c = search needs
 
-loop-again : tie.Need-loop-again Inv-loop μ-loop
-loop-again c = (search needs, search needs, search needs, search scan-again)
+loop-again-2 : tie.Need-loop-again-2 Inv-loop μ-loop
+loop-again-2 c = (search needs, search needs, search needs, scan-again _ _ _ _ _ _ _ _ _ _ _ _ _ (c .before .before .before .before .before .before .before .before .before .before .before .before .before .before .before .rec-at .ensures) (c .before .before .before .before .before .before .before .before .before .before .before .before .before .expected .ensures) (c .before .before .before .before .before .before .before .before .before .before .before .before .less .ensures) (c .before .before .before .before .before .before .before .before .row-of .ensures) (c .before .before .before .before .before .before .before .may-stand .ensures) ((c .before .before .before .before .before .before .before .before .before .before .before .before .before .before .before .before .before .loop .inv) .3) (c .before .before .before .before .before .before .before .before .before .before .before .before .before .before .before .before .before .before .before .before .slots .ensures) (c .before .before .before .before .before .before .before .before .before .before .before .before .before .before .before .before .loop-test .taken) _ _ ((c .before .before .push-children .ensures) .0) (c .before .before .before .before .before .before .if3 .left))
 
 same-length-3 : tie.Need-same-length-3 Inv-loop μ-loop
 same-length-3 c = search needs
@@ -98,19 +110,23 @@ scan-spec =
     rec-at-requires
     expected-requires
     less-requires
+    is-name-requires
+    add-i
+    loop-less
+    loop-again
     row-of-requires
     may-stand-requires
     same-length
     returns-2
     cast-count
-    add-if3
-    sub-if3
-    add-if3-2
+    add-if4
+    sub-if4
+    add-if4-2
     same-length-2
     returns-3
     push-children-requires
-    add-i
-    loop-less
-    loop-again
+    add-i-2
+    loop-less-2
+    loop-again-2
     same-length-3
     returns-4)
