@@ -1,19 +1,44 @@
--- A call whose number and output were compared agrees with the definition of reading.
-use Prim.Native.Nat.{ℕ, _/_}
-use mathlib.Core.Path.{_≡_}
+-- Tests that are passed exactly if the stored answers are the definition's. Assumes nothing.
+use Prim.Native.Nat.{ℕ, _<_}
+use mathlib.Core.Path.{_≡_, sym, subst, _∙_}
+use mathlib.Core.Bool.{Bool, true, false, false≢true}
 use mathlib.Core.List.{List}
-use native.Mathlib.Omega.{arith}
-use lib.ListN.{length}
-use Rattle.tokens.specs.Input.{Input}
-use Rattle.parser.specs.Reading.{reading}
-use Rattle.reading.specs.Answered.{Answered}
+use lib.ListN.{length, getD}
+use Rattle.replay.specs.Exactly.{Exactly}
 use Rattle.replay.specs.Held.{Held}
 use Rattle.replay.specs.Agreed.{Agreed}
 
--- l is the output, whose length stayed n
-pub agreed : (s : Input) (n m : ℕ) (l records : List ℕ) (r answer : ℕ) → m ≡ n → length l ≡ m → Answered (reading s (m / 24)) m l r → r ≡ answer → Held l records → Agreed (reading s (n / 24)) n records answer
-agreed s n m l records r answer e d a q h = record {
-  returns = cc (a .returns);
-  output = λ k b. cc (a .output, h .each k (omega arith));
-  whole = omega (arith, h .whole);
+pub never : {P : Type 0} → (P → ⊥) → Exactly false P
+never h = record {
+  only = λ e. absurd (false≢true e);
+  whenever = λ p. absurd (h p);
 }
+
+-- a test of P is one of Q, where they hold together
+pub tests-too : {b : Bool} {P Q : Type 0} → (P → Q) → (Q → P) → Exactly b P → Exactly b Q
+tests-too to from t = record {
+  only = λ e. to (t .only e);
+  whenever = λ q. t .whenever (from q);
+}
+
+-- a test that was passed or not
+pub failed : {b : Bool} {P : Type 0} → Exactly b P → b ≡ false → P → ⊥
+failed t e p = false≢true (sym e ∙ t .whenever p)
+
+-- the byte x at i should be another
+pub byte-differs : (l records : List ℕ) (i x : ℕ) → i < length l → (getD l i 0 ≡ x → ⊥) → x ≡ getD records i 0 → Exactly false (Held l records)
+byte-differs l records i x b d e = never (λ h. d (h .each i b ∙ sym e))
+
+-- the call returned r and left l
+module _ {A : Type 0} (numberOf : A → ℕ) (bytesOf : ℕ → A → List ℕ) (c : A) (n answer : ℕ) (records : List ℕ) (r : ℕ) (returned : r ≡ numberOf c) where
+  pub other-number : (r ≡ answer → ⊥) → Exactly false (Agreed numberOf bytesOf c n answer records)
+  other-number h = never (λ a. h (returned ∙ sym (a .returns)))
+
+  pub compared : (l : List ℕ) → l ≡ bytesOf n c → r ≡ answer → (b : Bool) → Exactly b (Held l records) → Exactly b (Agreed numberOf bytesOf c n answer records)
+  compared l left e b t = tests-too
+      (λ h. record {
+        returns = sym e ∙ returned;
+        output = subst (λ (x : List ℕ). Held x records) left h;
+      })
+      (λ a. subst (λ (x : List ℕ). Held x records) (sym left) (a .output))
+      t

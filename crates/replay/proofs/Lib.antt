@@ -1,1 +1,4 @@
 pub mod AgreedLaws
+pub mod ReadLaws
+pub mod ListLaws
+pub mod OpenLaws

@@ -1,12 +1,17 @@
--- What a comparison that finds no difference says of the definition of reading.
-use Prim.Native.Nat.{ℕ, _<_, _≤_}
+-- Stored answers that are the definition's. c is what the definition says of a call; the number that it returns and the n bytes that it leaves are read off c.
+use Prim.Native.Nat.{ℕ}
 use mathlib.Core.Path.{_≡_}
 use mathlib.Core.List.{List}
-use lib.ListN.{length, getD}
-use Rattle.parser.specs.Reading.{Reading, number, bytes}
+use Rattle.grounds.specs.Opening.{Outcome}
+use Rattle.openings.specs.Calls.{number, stored, written}
+use Rattle.replay.specs.Held.{Held}
 
--- the number is the answer, and an output of n bytes is the records and then zeros
-pub record Agreed (g : Reading) (n : ℕ) (records : List ℕ) (answer : ℕ) : Type 0 where
-  pub returns : answer ≡ number g
-  pub output : (k : ℕ) → k < n → getD (bytes n g) k 0 ≡ getD records k 0
-  pub whole : length records ≤ n
+-- an entry with one output: the answer is the number, and the output is the records and then zeros
+pub record Agreed {A : Type 0} (numberOf : A → ℕ) (bytesOf : ℕ → A → List ℕ) (c : A) (n answer : ℕ) (records : List ℕ) : Type 0 where
+  pub returns : answer ≡ numberOf c
+  pub output : Held (bytesOf n c) records
+
+-- opening: the same of its output, of m bytes, and its store, of n bytes, is the templates and then zeros
+pub record AgreedBoth (c : Outcome) (n m answer : ℕ) (templates records : List ℕ) : Type 0 where
+  pub agreed : Agreed number written c m answer records
+  pub store : Held (stored n c) templates

@@ -18,6 +18,10 @@ ghost use mathlib.Core.Path.{_≡_};
 ghost use mathlib.Core.Bool.{true};
 ghost use Prim.Native.Nat.{_+_, _≤_};
 ghost use lib.ListN.{length};
+ghost use Rattle.templating.specs.Calls.{Ended, number, bytes};
+ghost use Rattle.replay.specs.Agreed.{Agreed};
+ghost use Rattle.replay.specs.Called.{called};
+ghost use Rattle.replay.specs.Exactly.{Exactly};
 ghost use Rattle.replay.specs.SmallLists.{SmallLists};
 
 // Sizes in bytes; and whether the entry is substitution.
@@ -30,7 +34,9 @@ struct Lists {
     fills: bool,
 }
 
-fn answer_of(fills: bool, text: &[u8], first: &[u8], second: &[u8], out: &mut [u8]) -> u64 {
+fn answer_of(fills: bool, text: &[u8], first: &[u8], second: &[u8], out: &mut [u8]) -> u64
+    ensures { λ r. ⌜ Ended (called fills (now (text .entry)) (now (first .entry)) (now (second .entry)) (now (out .entry))) (length (now (out .entry))) (now (out .exit)) r ⌝ }
+{
     if fills {
         return fill(text, first, second, out);
     }
@@ -38,7 +44,9 @@ fn answer_of(fills: bool, text: &[u8], first: &[u8], second: &[u8], out: &mut [u
 }
 
 // Whether the entry answers that number, and leaves the records and then zeros in the output.
-fn agrees(fills: bool, text: &[u8], first: &[u8], second: &[u8], out: &mut [u8], answer: u64, records: &[u8]) -> bool {
+fn agrees(fills: bool, text: &[u8], first: &[u8], second: &[u8], out: &mut [u8], answer: u64, records: &[u8]) -> bool
+    ensures { λ r. ⌜ Exactly r (Agreed number bytes (called fills (now (text .entry)) (now (first .entry)) (now (second .entry)) (now (out .entry))) (length (now (out .entry))) answer (now (records .entry))) ⌝ }
+{
     prefill(out);
     if answer_of(fills, text, first, second, out) != answer {
         return false;

@@ -15,6 +15,9 @@ ghost use mathlib.Core.Path.{_≡_};
 ghost use mathlib.Core.Bool.{true};
 ghost use Prim.Native.Nat.{_+_, _≤_};
 ghost use lib.ListN.{length};
+ghost use Rattle.openings.specs.Calls.{openingOf};
+ghost use Rattle.replay.specs.Agreed.{AgreedBoth};
+ghost use Rattle.replay.specs.Exactly.{Exactly};
 ghost use Rattle.replay.specs.SmallOpening.{SmallOpening};
 
 // Sizes in bytes: of the lists, of the store and the output that are lent, and of what the case says that they hold.
@@ -39,7 +42,9 @@ fn agrees(
     answer: u64,
     stored: &[u8],
     written: &[u8],
-) -> bool {
+) -> bool
+    ensures { λ r. ⌜ Exactly r (AgreedBoth (openingOf (now (text .entry)) (now (defs .entry)) (now (pattern .entry)) (now (store .entry)) (now (out .entry))) (length (now (store .entry))) (length (now (out .entry))) answer (now (stored .entry)) (now (written .entry))) ⌝ }
+{
     prefill(store);
     prefill(out);
     if open(text, defs, pattern, store, out) != answer {

@@ -1,8 +1,8 @@
 // Outputs before and after a call.
 use records::refused;
 ghost use mathlib.Core.Path.{_≡_};
-ghost use mathlib.Core.Bool.{true};
 ghost use lib.ListN.{getD};
+ghost use Rattle.replay.specs.Exactly.{Exactly};
 ghost use Rattle.replay.specs.Held.{Held};
 
 // Bytes that no answer leaves.
@@ -26,7 +26,7 @@ fn byte_or_zero(s: &[u8], i: usize) -> u8
 
 // Whether the output holds the records and then zeros to its end.
 pub fn holds(out: &[u8], records: &[u8]) -> bool
-    ensures { λ r. ⌜ (r ≡ true → Held (now (out .entry)) (now (records .entry))) ⌝ }
+    ensures { λ r. ⌜ Exactly r (Held (now (out .entry)) (now (records .entry))) ⌝ }
 {
     let mut i = 0;
     while i < out.len() {

@@ -19,8 +19,9 @@ ghost use mathlib.Core.Bool.{true};
 ghost use lib.ListN.{length};
 ghost use Rattle.records.specs.Slots.{slots};
 ghost use Rattle.tokens.specs.Input.{Input, input};
-ghost use Rattle.parser.specs.Reading.{reading};
+ghost use Rattle.parser.specs.Reading.{reading, number, bytes};
 ghost use Rattle.replay.specs.Agreed.{Agreed};
+ghost use Rattle.replay.specs.Exactly.{Exactly};
 ghost use Rattle.replay.specs.Small.{Small};
 
 // Sizes in bytes.
@@ -34,7 +35,7 @@ struct Case {
 
 // Whether the reader answers that number, and leaves the records and then zeros in the output.
 fn agrees(tokens: &[u8], text: &[u8], end: u32, out: &mut [u8], answer: u64, records: &[u8]) -> bool
-    ensures { λ r. ⌜ (r ≡ true → Agreed (reading (input (now (tokens .entry)) (now (text .entry)) end) (slots (now (out .entry)))) (length (now (out .entry))) (now (records .entry)) answer) ⌝ }
+    ensures { λ r. ⌜ Exactly r (Agreed number bytes (reading (input (now (tokens .entry)) (now (text .entry)) end) (slots (now (out .entry)))) (length (now (out .entry))) answer (now (records .entry))) ⌝ }
 {
     prefill(out);
     if read(tokens, text, end, out) != answer {

@@ -1,10 +1,11 @@
 use borrow.Author.Needs.{needs}
-use borrow.Author.Tests.{leb-true}
+use borrow.Author.Tests.{leb-true, le-leb}
 use native.Mathlib.Omega.{arith}
 use mathlib.Core.Path.{_≡_}
 use Prim.Native.Nat.{ℕ, _≤_, _<_, _-_}
 use lib.ListN.{length, getD}
 use borrow.Author.Count.{below-more}
+use Rattle.replay.proofs.AgreedLaws.{byte-differs}
 use Rattle.replay.proofs.outputs.holds.Statement.{statement}
 use Rattle.replay.proofs.outputs.holds.Tie as tie
 
@@ -24,7 +25,7 @@ byte-or-zero-requires : tie.Need-byte-or-zero-requires Inv-loop μ-loop
 byte-or-zero-requires c κs = search needs
 
 returns : tie.Need-returns Inv-loop μ-loop
-returns c = λ e. absurd (let z : _≡_ {A = ℕ} 0 1 = cc in omega arith)
+returns c = search byte-differs
 
 add-i : tie.Need-add-i Inv-loop μ-loop
 add-i c = search needs
@@ -36,9 +37,12 @@ loop-again : tie.Need-loop-again Inv-loop μ-loop
 loop-again c = (search needs, below-more _ _ (c .before .before .before .before .loop .inv .1) (search needs))
 
 returns-2 : tie.Need-returns-2 Inv-loop μ-loop
-returns-2 c = λ e. record {
-  each = λ k h. c .before .loop .inv .1 k (omega arith);
-  whole = leb-true _ _ e;
+returns-2 c = record {
+  only = λ e. record {
+    each = λ k h. c .before .loop .inv .1 k (omega arith);
+    whole = leb-true _ _ e;
+  };
+  whenever = λ h. le-leb _ _ (h .whole);
 }
 
 pub holds-spec : {M : Type 1} → statement M

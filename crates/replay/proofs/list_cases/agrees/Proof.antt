@@ -1,0 +1,37 @@
+use Rattle.replay.proofs.ListLaws.{list-other, list-compared}
+use borrow.Author.Needs.{needs}
+use Rattle.replay.proofs.list_cases.agrees.Statement.{statement}
+use Rattle.replay.proofs.list_cases.agrees.Tie as tie
+
+prefill-requires : tie.Need-prefill-requires
+prefill-requires c κs = search needs
+
+answer-of-requires : tie.Need-answer-of-requires
+answer-of-requires c κs = search needs
+
+same-length : tie.Need-same-length
+same-length c = search needs
+
+returns : tie.Need-returns
+returns c = search list-other
+
+holds-requires : tie.Need-holds-requires
+holds-requires c κs = search needs
+
+same-length-2 : tie.Need-same-length-2
+same-length-2 c = search needs
+
+returns-2 : tie.Need-returns-2
+returns-2 c = search list-compared
+
+pub agrees-spec : {M : Type 1} → statement M
+agrees-spec =
+    tie.close
+    (tie.spec
+    prefill-requires
+    answer-of-requires
+    same-length
+    returns
+    holds-requires
+    same-length-2
+    returns-2)
