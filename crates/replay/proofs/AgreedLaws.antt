@@ -1,11 +1,12 @@
 -- Tests that are passed exactly if the stored answers are the definition's. Assumes nothing.
 use Prim.Native.Nat.{ℕ, _<_}
-use mathlib.Core.Path.{_≡_, sym, subst, _∙_}
+use mathlib.Core.Path.{_≡_, sym, ap, subst, _∙_}
 use mathlib.Core.Bool.{Bool, true, false, false≢true}
 use mathlib.Core.List.{List}
 use lib.ListN.{length, getD}
 use Rattle.replay.specs.Exactly.{Exactly}
 use Rattle.replay.specs.Held.{Held}
+use Rattle.replay.specs.Said.{Said, says}
 use Rattle.replay.specs.Agreed.{Agreed}
 
 pub never : {P : Type 0} → (P → ⊥) → Exactly false P
@@ -30,15 +31,15 @@ pub byte-differs : (l records : List ℕ) (i x : ℕ) → i < length l → (getD
 byte-differs l records i x b d e = never (λ h. d (h .each i b ∙ sym e))
 
 -- the call returned r and left l
-module _ {A : Type 0} (numberOf : A → ℕ) (bytesOf : ℕ → A → List ℕ) (c : A) (n answer : ℕ) (records : List ℕ) (r : ℕ) (returned : r ≡ numberOf c) where
-  pub other-number : (r ≡ answer → ⊥) → Exactly false (Agreed numberOf bytesOf c n answer records)
-  other-number h = never (λ a. h (returned ∙ sym (a .returns)))
+module _ (s : Said) (answer : ℕ) (records : List ℕ) (r : ℕ) (l : List ℕ) (e : says r l ≡ s) where
+  pub other-number : (r ≡ answer → ⊥) → Exactly false (Agreed s answer records)
+  other-number h = never (λ a. h (ap (λ (t : Said). t .number) e ∙ sym (a .returns)))
 
-  pub compared : (l : List ℕ) → l ≡ bytesOf n c → r ≡ answer → (b : Bool) → Exactly b (Held l records) → Exactly b (Agreed numberOf bytesOf c n answer records)
-  compared l left e b t = tests-too
+  pub compared : r ≡ answer → (b : Bool) → Exactly b (Held l records) → Exactly b (Agreed s answer records)
+  compared q b t = tests-too
       (λ h. record {
-        returns = sym e ∙ returned;
-        output = subst (λ (x : List ℕ). Held x records) left h;
+        returns = sym q ∙ ap (λ (t : Said). t .number) e;
+        output = subst (λ (t : Said). Held (t .output) records) e h;
       })
-      (λ a. subst (λ (x : List ℕ). Held x records) (sym left) (a .output))
+      (λ a. subst (λ (t : Said). Held (t .output) records) (sym e) (a .output))
       t

@@ -1,4 +1,3 @@
 pub mod AgreedLaws
-pub mod ReadLaws
-pub mod ListLaws
+pub mod OutputLaws
 pub mod OpenLaws

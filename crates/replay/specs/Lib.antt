@@ -1,7 +1,6 @@
-pub mod Small
 pub mod Exactly
 pub mod Held
+pub mod Said
 pub mod Agreed
-pub mod Called
-pub mod SmallLists
+pub mod SmallCase
 pub mod SmallOpening

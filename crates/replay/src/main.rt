@@ -1,14 +1,12 @@
-// Replays the stored answers of the Rust crate: each case is read with outputs of several sizes, and the returned number
-// and every byte of each output are compared. A module for each file of answers; the file lies in the folder where the program runs.
-mod list_cases;
+// Replays the stored answers of the Rust crate: each case is called with outputs of several sizes, and the returned number
+// and every byte of each output are compared. The files of answers lie in the folder where the program runs.
+mod files;
 mod open_cases;
+mod output_cases;
 mod outputs;
-mod read_cases;
 mod stored;
 mod tally;
 
 fn main() {
-    read_cases::replay();
-    list_cases::replay();
-    open_cases::replay();
+    files::replay_all();
 }

@@ -8,16 +8,15 @@ use crate::tally::Step;
 use crate::tally::Tally;
 use crate::tally::damaged;
 use crate::tally::stop;
-use crate::tally::write;
 use openings::open;
 use words::word;
 ghost use mathlib.Core.Path.{_≡_};
 ghost use mathlib.Core.Bool.{true};
 ghost use Prim.Native.Nat.{_+_, _≤_};
-ghost use lib.ListN.{length};
-ghost use Rattle.openings.specs.Calls.{openingOf};
+ghost use lib.ListN.{length, take};
 ghost use Rattle.replay.specs.Agreed.{AgreedBoth};
 ghost use Rattle.replay.specs.Exactly.{Exactly};
+ghost use Rattle.replay.specs.Said.{opened};
 ghost use Rattle.replay.specs.SmallOpening.{SmallOpening};
 
 // Sizes in bytes: of the lists, of the store and the output that are lent, and of what the case says that they hold.
@@ -43,7 +42,7 @@ fn agrees(
     stored: &[u8],
     written: &[u8],
 ) -> bool
-    ensures { λ r. ⌜ Exactly r (AgreedBoth (openingOf (now (text .entry)) (now (defs .entry)) (now (pattern .entry)) (now (store .entry)) (now (out .entry))) (length (now (store .entry))) (length (now (out .entry))) answer (now (stored .entry)) (now (written .entry))) ⌝ }
+    ensures { λ r. ⌜ Exactly r (AgreedBoth (opened (now (text .entry)) (now (defs .entry)) (now (pattern .entry)) (now (store .entry)) (now (out .entry))) answer (now (stored .entry)) (now (written .entry))) ⌝ }
 {
     prefill(store);
     prefill(out);
@@ -71,6 +70,7 @@ fn agrees_at(
 ) -> bool
     requires { ⌜ s ≤ length (now store) ⌝ }
     requires { ⌜ o ≤ length (now out) ⌝ }
+    ensures { λ r. ⌜ Exactly r (AgreedBoth (opened (now (text .entry)) (now (defs .entry)) (now (pattern .entry)) (take s (now (store .entry))) (take o (now (out .entry)))) answer (now (stored .entry)) (now (written .entry))) ⌝ }
 {
     agrees(
         text,
@@ -285,7 +285,7 @@ fn replay_case(fd: i32, c: Opening, tally: Tally) -> Step
 }
 
 // The next case, where the file has one.
-fn next_case(fd: i32, tally: Tally) -> Step {
+pub fn next_case(fd: i32, tally: Tally) -> Step {
     let mut head = [0u8; 28];
     let got = io::read_full(fd, &mut head);
     if got == 0 {
@@ -299,28 +299,4 @@ fn next_case(fd: i32, tally: Tally) -> Step {
         return replay_case(fd, c, tally);
     }
     damaged(tally)
-}
-
-// Nothing says that a file ends, so the turns are counted down from a number that no file uses up.
-fn all_cases(fd: i32) -> Tally {
-    let mut s = Step {
-        tally: Tally::none(),
-        more: true,
-    };
-    let mut turns: u64 = 1000000000;
-    while 0 < turns && s.more {
-        s = next_case(fd, s.tally);
-        turns -= 1;
-    }
-    s.tally
-}
-
-pub fn replay() {
-    let fd = os::open_read(b"open.answers");
-    if fd < 0 {
-        io::write_all(1, b"open.answers: cannot be opened\n");
-        return;
-    }
-    write(b"opening: ", all_cases(fd));
-    libc::close(fd);
 }

@@ -1,7 +1,7 @@
-use Rattle.replay.proofs.ListLaws.{list-other, list-compared}
+use Rattle.replay.proofs.OutputLaws.{output-other, output-compared}
 use borrow.Author.Needs.{needs}
-use Rattle.replay.proofs.list_cases.agrees.Statement.{statement}
-use Rattle.replay.proofs.list_cases.agrees.Tie as tie
+use Rattle.replay.proofs.output_cases.agrees.Statement.{statement}
+use Rattle.replay.proofs.output_cases.agrees.Tie as tie
 
 prefill-requires : tie.Need-prefill-requires
 prefill-requires c κs = search needs
@@ -13,7 +13,7 @@ same-length : tie.Need-same-length
 same-length c = search needs
 
 returns : tie.Need-returns
-returns c = search list-other
+returns c = search output-other
 
 holds-requires : tie.Need-holds-requires
 holds-requires c κs = search needs
@@ -22,7 +22,7 @@ same-length-2 : tie.Need-same-length-2
 same-length-2 c = search needs
 
 returns-2 : tie.Need-returns-2
-returns-2 c = search list-compared
+returns-2 c = search output-compared
 
 pub agrees-spec : {M : Type 1} → statement M
 agrees-spec =

@@ -1,15 +1,15 @@
-use borrow.Author.Needs.{needs}
 use mathlib.Core.Path.{sym}
 use native.Mathlib.Omega.{arith}
 use lib.Seq.{length-take-le}
-use Rattle.replay.proofs.read_cases.agrees_at.Statement.{statement}
-use Rattle.replay.proofs.read_cases.agrees_at.Tie as tie
+use borrow.Author.Needs.{needs}
+use Rattle.replay.proofs.output_cases.agrees_at.Statement.{statement}
+use Rattle.replay.proofs.output_cases.agrees_at.Tie as tie
 
 slice-relend-prefix-agrees : tie.Need-slice-relend-prefix-agrees
 slice-relend-prefix-agrees c = search needs
 
 slice-aggregate-agrees : tie.Need-slice-aggregate-agrees
-slice-aggregate-agrees c = sym (length-take-le (c .before .before .before .before .before .args .size) (c .before .before .before .before .before .args .out .now) (omega arith))
+slice-aggregate-agrees c = sym (length-take-le (c .before .before .before .before .before .before .args .size) (c .before .before .before .before .before .before .args .out .now) (omega arith))
 
 agrees-requires : tie.Need-agrees-requires
 agrees-requires c κs = search needs

@@ -1,6 +1,6 @@
 use borrow.Author.Needs.{needs}
-use Rattle.replay.proofs.read_cases.next_case.Statement.{statement}
-use Rattle.replay.proofs.read_cases.next_case.Tie as tie
+use Rattle.replay.proofs.output_cases.next_case.Statement.{statement}
+use Rattle.replay.proofs.output_cases.next_case.Tie as tie
 
 slice-aggregate-read-full : tie.Need-slice-aggregate-read-full
 slice-aggregate-read-full c = search needs

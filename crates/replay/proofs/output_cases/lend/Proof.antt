@@ -2,8 +2,8 @@ use mathlib.Core.Path.{sym}
 use native.Mathlib.Omega.{arith}
 use lib.Seq.{length-take-le}
 use borrow.Author.Needs.{needs}
-use Rattle.replay.proofs.list_cases.lend.Statement.{statement}
-use Rattle.replay.proofs.list_cases.lend.Tie as tie
+use Rattle.replay.proofs.output_cases.lend.Statement.{statement}
+use Rattle.replay.proofs.output_cases.lend.Tie as tie
 
 slice-relend-prefix-replay-parts : tie.Need-slice-relend-prefix-replay-parts
 slice-relend-prefix-replay-parts c = search needs
@@ -30,7 +30,7 @@ slice-aggregate-replay-parts-4 : tie.Need-slice-aggregate-replay-parts-4
 slice-aggregate-replay-parts-4 c = sym (length-take-le (c .before .before .before .before .before .before .before .before .args .c .records) (c .before .before .before .before .before .before .before .before .args .records .now) (omega arith))
 
 replay-parts-requires : tie.Need-replay-parts-requires
-replay-parts-requires c κs = omega (arith, length-take-le (c .before .before .before .before .before .before .before .before .args .c .records) (c .before .before .before .before .before .before .before .before .args .records .now) (omega arith))
+replay-parts-requires c κs = (omega (arith, length-take-le (c .before .before .before .before .before .before .before .before .args .c .first) (c .before .before .before .before .before .before .before .before .args .first .now) (omega arith)), omega (arith, length-take-le (c .before .before .before .before .before .before .before .before .args .c .records) (c .before .before .before .before .before .before .before .before .args .records .now) (omega arith)))
 
 same-length : tie.Need-same-length
 same-length c = search needs

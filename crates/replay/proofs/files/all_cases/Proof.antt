@@ -1,12 +1,12 @@
 use borrow.Author.Needs.{needs}
-use Rattle.replay.proofs.open_cases.all_cases.Statement.{statement}
-use Rattle.replay.proofs.open_cases.all_cases.Tie as tie
+use Rattle.replay.proofs.files.all_cases.Statement.{statement}
+use Rattle.replay.proofs.files.all_cases.Tie as tie
 
 abbrev Inv-loop : tie.InvT-loop
-Inv-loop fd s₀ turns₀ s turns = Unit {0}
+Inv-loop fd fills s₀ turns₀ s turns = Unit {0}
 
 abbrev μ-loop : tie.MeasureT-loop
-μ-loop fd s₀ turns₀ s turns = turns
+μ-loop fd fills s₀ turns₀ s turns = turns
 
 none-requires : tie.Need-none-requires Inv-loop μ-loop
 none-requires c κs = search needs

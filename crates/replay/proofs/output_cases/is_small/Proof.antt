@@ -2,8 +2,8 @@ use mathlib.Core.Path.{_≡_}
 use Prim.Native.Nat.{ℕ}
 use native.Mathlib.Omega.{arith}
 use borrow.Author.Needs.{needs}
-use Rattle.replay.proofs.list_cases.is_small.Statement.{statement}
-use Rattle.replay.proofs.list_cases.is_small.Tie as tie
+use Rattle.replay.proofs.output_cases.is_small.Statement.{statement}
+use Rattle.replay.proofs.output_cases.is_small.Tie as tie
 
 returns : tie.Need-returns
 returns c = λ e. absurd (let z : _≡_ {A = ℕ} 0 1 = cc in omega arith)
