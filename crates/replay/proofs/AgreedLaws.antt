@@ -1,45 +1,71 @@
--- Tests that are passed exactly if the stored answers are the definition's. Assumes nothing.
-use Prim.Native.Nat.{ℕ, _<_}
-use mathlib.Core.Path.{_≡_, sym, ap, subst, _∙_}
-use mathlib.Core.Bool.{Bool, true, false, false≢true}
+-- Comparing what a call returned and left with stored answers: r is the number, l the output, k the store. The bytes lent to be written were
+-- overwritten before the call, and stayed as many: n or m before, n′ or m′ then. Assumes nothing.
+use Prim.Native.Nat.{ℕ, _/_, _≤_}
+use mathlib.Core.Path.{_≡_, refl}
+use mathlib.Core.Bool.{Bool, true, false, not}
 use mathlib.Core.List.{List}
-use lib.ListN.{length, getD}
-use Rattle.replay.specs.Exactly.{Exactly}
-use Rattle.replay.specs.Held.{Held}
-use Rattle.replay.specs.Said.{Said, says}
-use Rattle.replay.specs.Agreed.{Agreed}
+use lib.ListN.{length, take, length-replicate}
+use lib.Seq.{length-take-le}
+use borrow.Author.Tests.{eq-eqb, ne-eqb, not-true, not-false}
+use Rattle.records.specs.Slots.{slots}
+use Rattle.tokens.specs.Input.{Input, input}
+use Rattle.parser.specs.Reading.{reading}
+use Rattle.reading.specs.Answered.{Answered}
+use Rattle.templates.specs.Answers.{space}
+use Rattle.templating.specs.Calls.{Ended, making, substituting}
+use Rattle.opening.specs.Answers.{spaceOf}
+use Rattle.openings.specs.Calls.{Left, openingOf}
+use Rattle.replay.specs.declared.output_cases.Entry.{Entry}
+use Rattle.replay.specs.declared.output_cases.Entry.the-variants.{Read, Make, Fill}
+use Rattle.replay.specs.Said.{Said, SaidBoth, says, saysBoth, said, opened, lent}
+use Rattle.replay.specs.Agreed.{held, agreed, agreedBoth}
 
-pub never : {P : Type 0} → (P → ⊥) → Exactly false P
-never h = record {
-  only = λ e. absurd (false≢true e);
-  whenever = λ p. absurd (h p);
-}
+-- ---- one output
 
--- a test of P is one of Q, where they hold together
-pub tests-too : {b : Bool} {P Q : Type 0} → (P → Q) → (Q → P) → Exactly b P → Exactly b Q
-tests-too to from t = record {
-  only = λ e. to (t .only e);
-  whenever = λ q. t .whenever (from q);
-}
+module _ (entry : Entry) (text first second : List ℕ) (end : ℕ) where
+  module _ (o l : List ℕ) (r : ℕ) where
+    pub said-read : entry ≡ Read → Answered (reading (input first text end) (slots o)) (length o) l r → says r l ≡ said entry text first second end (length o)
+    unfolding said
+    said-read e a = rw (e, a .returns, a .output)
 
--- a test that was passed or not
-pub failed : {b : Bool} {P : Type 0} → Exactly b P → b ≡ false → P → ⊥
-failed t e p = false≢true (sym e ∙ t .whenever p)
+    pub said-make : entry ≡ Make → Ended (making text first second o) (length o) l r → says r l ≡ said entry text first second end (length o)
+    unfolding said making space
+    said-make e a = rw (e, a .returns, a .output, length-replicate {A = ℕ} (length o) 0)
 
--- the byte x at i should be another
-pub byte-differs : (l records : List ℕ) (i x : ℕ) → i < length l → (getD l i 0 ≡ x → ⊥) → x ≡ getD records i 0 → Exactly false (Held l records)
-byte-differs l records i x b d e = never (λ h. d (h .each i b ∙ sym e))
+    pub said-fill : entry ≡ Fill → Ended (substituting text first second o) (length o) l r → says r l ≡ said entry text first second end (length o)
+    unfolding said substituting space
+    said-fill e a = rw (e, a .returns, a .output, length-replicate {A = ℕ} (length o) 0)
 
--- the call returned r and left l
-module _ (s : Said) (answer : ℕ) (records : List ℕ) (r : ℕ) (l : List ℕ) (e : says r l ≡ s) where
-  pub other-number : (r ≡ answer → ⊥) → Exactly false (Agreed s answer records)
-  other-number h = never (λ a. h (ap (λ (t : Said). t .number) e ∙ sym (a .returns)))
+module _ (l records : List ℕ) (r answer : ℕ) where
+  pub other-number : (r ≡ answer → ⊥) → false ≡ agreed (says r l) answer records
+  unfolding agreed
+  other-number h = rw (ne-eqb r answer h)
 
-  pub compared : r ≡ answer → (b : Bool) → Exactly b (Held l records) → Exactly b (Agreed s answer records)
-  compared q b t = tests-too
-      (λ h. record {
-        returns = sym q ∙ ap (λ (t : Said). t .number) e;
-        output = subst (λ (t : Said). Held (t .output) records) e h;
-      })
-      (λ a. subst (λ (t : Said). Held (t .output) records) (sym e) (a .output))
-      t
+  pub same-number : r ≡ answer → (b : Bool) → b ≡ held l records → b ≡ agreed (says r l) answer records
+  unfolding agreed
+  same-number h b e = rw (eq-eqb r answer h) e
+
+pub output-compared : (entry : Entry) (text first second : List ℕ) (end n n′ : ℕ) (l records : List ℕ) (r answer : ℕ) (b : Bool) → n′ ≡ n → says r l ≡ said entry text first second end n′ → b ≡ agreed (says r l) answer records → b ≡ agreed (said entry text first second end n) answer records
+output-compared entry text first second end n n′ l records r answer b e a x = rw (← e, ← a) x
+
+-- the output is the beginning of a larger one
+pub output-first : (entry : Entry) (text first second : List ℕ) (end n : ℕ) (o records : List ℕ) (answer : ℕ) (b : Bool) → n ≤ length o → b ≡ agreed (said entry text first second end (length (take n o))) answer records → b ≡ agreed (said entry text first second end n) answer records
+output-first entry text first second end n o records answer b h e = rw (← length-take-le n o h) e
+
+-- ---- opening
+
+module _ (text defs patt s o k l templates records : List ℕ) (n m r answer : ℕ) (e : length s ≡ n) (d : length o ≡ m) (a : Left (openingOf text defs patt s o) (length s) (length o) k l r) where
+  said-open : saysBoth r k l ≡ opened text defs patt n m
+  unfolding opened openingOf spaceOf
+  said-open = rw (← e, ← d, a .returns, a .store, a .output, length-replicate {A = ℕ} (length s) 0, length-replicate {A = ℕ} (length o) 0)
+
+  pub open-store : (t : Bool) → t ≡ held k templates → not t ≡ true → false ≡ agreedBoth (opened text defs patt n m) answer templates records
+  unfolding agreedBoth
+  open-store t x f = rw (← said-open, ← x, not-true t f)
+
+  pub open-compared : (t b : Bool) → t ≡ held k templates → not t ≡ false → b ≡ agreed (says r l) answer records → b ≡ agreedBoth (opened text defs patt n m) answer templates records
+  unfolding agreedBoth
+  open-compared t b x f y = rw (← said-open, ← x, not-false t f) y
+
+pub open-first : (text defs patt : List ℕ) (n m : ℕ) (s o templates records : List ℕ) (answer : ℕ) (b : Bool) → n ≤ length s → m ≤ length o → b ≡ agreedBoth (opened text defs patt (length (take n s)) (length (take m o))) answer templates records → b ≡ agreedBoth (opened text defs patt n m) answer templates records
+open-first text defs patt n m s o templates records answer b h i e = rw (← length-take-le n s h, ← length-take-le m o i) e

@@ -1,3 +1,3 @@
+pub mod HeldLaws
 pub mod AgreedLaws
-pub mod OutputLaws
-pub mod OpenLaws
+pub mod CountLaws

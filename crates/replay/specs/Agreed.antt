@@ -1,16 +1,25 @@
--- Stored answers that are the definition's.
-use Prim.Native.Nat.{ℕ}
-use mathlib.Core.Path.{_≡_}
-use mathlib.Core.List.{List}
-use Rattle.replay.specs.Held.{Held}
+-- Whether stored answers are the definition's.
+use Prim.Native.Nat.{ℕ, _-_}
+use mathlib.Core.Bool.{Bool, false}
+use mathlib.Core.List.{List, _++_}
+use lib.ListN.{length, replicate}
+use lib.Dec.{eqb}
+use Rattle.trees.specs.Choice.{pick}
+use Rattle.words.specs.Bytes.{sameBytes}
 use Rattle.replay.specs.Said.{Said, SaidBoth}
 
--- the answer is the number, and the output is the records and then zeros
-pub record Agreed (s : Said) (answer : ℕ) (records : List ℕ) : Type 0 where
-  pub returns : answer ≡ s .number
-  pub output : Held (s .output) records
+-- the records, and zeros up to n bytes
+unfoldable pub padded : List ℕ → ℕ → List ℕ
+padded records n = records ++ replicate (n - length records) 0
+
+-- the bytes l are the records and then zeros
+unfoldable pub held : List ℕ → List ℕ → Bool
+held l records = sameBytes l (padded records (length l))
+
+-- the number is the answer, and the output is the records and then zeros
+unfoldable pub agreed : Said → ℕ → List ℕ → Bool
+agreed s answer records = pick (eqb (s .number) answer) (held (s .output) records) false
 
 -- opening: the same, and the store is the templates and then zeros
-pub record AgreedBoth (s : SaidBoth) (answer : ℕ) (templates records : List ℕ) : Type 0 where
-  pub agreed : Agreed (s .said) answer records
-  pub store : Held (s .store) templates
+unfoldable pub agreedBoth : SaidBoth → ℕ → List ℕ → List ℕ → Bool
+agreedBoth s answer templates records = pick (held (s .store) templates) (agreed (s .said) answer records) false

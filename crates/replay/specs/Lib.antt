@@ -1,6 +1,5 @@
-pub mod Exactly
-pub mod Held
 pub mod Said
 pub mod Agreed
+pub mod Counted
 pub mod SmallCase
 pub mod SmallOpening

@@ -1,15 +1,20 @@
 -- What the definitions say of a call: the number that is returned and the whole output; and of opening the whole store besides.
-use Prim.Native.Nat.{ℕ}
+use Prim.Native.Nat.{ℕ, _/_}
 use mathlib.Core.List.{List}
-use lib.ListN.{length}
-use Rattle.records.specs.Slots.{slots}
+use lib.ListN.{replicate}
 use Rattle.tokens.specs.Input.{Input, input}
+use Rattle.grounds.specs.Opening.{Outcome}
 use Rattle.parser.specs.Reading as reader
 use Rattle.templating.specs.Calls as lists
-use Rattle.grounds.specs.Opening.{Outcome}
 use Rattle.openings.specs.Calls as opens
 use Rattle.replay.specs.declared.output_cases.Entry.{Entry}
 use Rattle.replay.specs.declared.output_cases.Entry.the-variants.{Read, Make, Fill}
+
+-- the bytes that are lent to be written: how many they are counts, not what they hold
+abbrev pub lent : ℕ → List ℕ
+lent n = replicate n 0
+
+-- ---- one output
 
 pub record Said : Type 0 where
   pub number : ℕ
@@ -27,11 +32,13 @@ ofReading g n = says (reader.number g) (reader.bytes n g)
 abbrev pub ofCall : lists.Call → ℕ → Said
 ofCall c n = says (lists.number c) (lists.bytes n c)
 
--- of a text, two lists, the end position and an output; the tokens are the first list of reading, which has no second one and alone has an end
-unfoldable pub said : Entry → List ℕ → List ℕ → List ℕ → ℕ → List ℕ → Said
-said Read text first second end out = ofReading (reader.reading (input first text end) (slots out)) (length out)
-said Make text first second end out = ofCall (lists.making text first second out) (length out)
-said Fill text first second end out = ofCall (lists.substituting text first second out) (length out)
+-- of a text, two lists and an end position, with an output of n bytes; the tokens are the first list of reading, which has no second one and alone has an end
+unfoldable pub said : Entry → List ℕ → List ℕ → List ℕ → ℕ → ℕ → Said
+said Read text first second end n = ofReading (reader.reading (input first text end) (n / 24)) n
+said Make text first second end n = ofCall (lists.making text first second (lent n)) n
+said Fill text first second end n = ofCall (lists.substituting text first second (lent n)) n
+
+-- ---- a store and an output
 
 pub record SaidBoth : Type 0 where
   pub said : Said
@@ -46,6 +53,6 @@ saysBoth r k l = record {
 abbrev pub ofOutcome : Outcome → ℕ → ℕ → SaidBoth
 ofOutcome c n m = saysBoth (opens.number c) (opens.stored n c) (opens.written m c)
 
--- of a text, definitions, a pattern, a store and an output
-unfoldable pub opened : List ℕ → List ℕ → List ℕ → List ℕ → List ℕ → SaidBoth
-opened text defs patt store out = ofOutcome (opens.openingOf text defs patt store out) (length store) (length out)
+-- of a text, definitions and a pattern, with a store of n bytes and an output of m bytes
+unfoldable pub opened : List ℕ → List ℕ → List ℕ → ℕ → ℕ → SaidBoth
+opened text defs patt n m = ofOutcome (opens.openingOf text defs patt (lent n) (lent m)) n m

@@ -3,6 +3,7 @@
 // most significant byte first.
 use crate::outputs::holds;
 use crate::outputs::prefill;
+use crate::outputs::same_answer;
 use crate::stored::filled;
 use crate::tally::Step;
 use crate::tally::Tally;
@@ -13,9 +14,9 @@ use words::word;
 ghost use mathlib.Core.Path.{_≡_};
 ghost use mathlib.Core.Bool.{true};
 ghost use Prim.Native.Nat.{_+_, _≤_};
-ghost use lib.ListN.{length, take};
-ghost use Rattle.replay.specs.Agreed.{AgreedBoth};
-ghost use Rattle.replay.specs.Exactly.{Exactly};
+ghost use lib.ListN.{length};
+ghost use Rattle.replay.specs.Agreed.{agreedBoth};
+ghost use Rattle.replay.specs.Counted.{after};
 ghost use Rattle.replay.specs.Said.{opened};
 ghost use Rattle.replay.specs.SmallOpening.{SmallOpening};
 
@@ -42,17 +43,15 @@ fn agrees(
     stored: &[u8],
     written: &[u8],
 ) -> bool
-    ensures { λ r. ⌜ Exactly r (AgreedBoth (opened (now (text .entry)) (now (defs .entry)) (now (pattern .entry)) (now (store .entry)) (now (out .entry))) answer (now (stored .entry)) (now (written .entry))) ⌝ }
+    ensures { λ r. ⌜ r ≡ agreedBoth (opened (now (text .entry)) (now (defs .entry)) (now (pattern .entry)) (length (now (store .entry))) (length (now (out .entry)))) answer (now (stored .entry)) (now (written .entry)) ⌝ }
 {
     prefill(store);
     prefill(out);
-    if open(text, defs, pattern, store, out) != answer {
-        return false;
-    }
+    let number = open(text, defs, pattern, store, out);
     if !holds(store, stored) {
         return false;
     }
-    holds(out, written)
+    same_answer(number, out, answer, written)
 }
 
 // The same with a store and an output of these sizes.
@@ -70,7 +69,7 @@ fn agrees_at(
 ) -> bool
     requires { ⌜ s ≤ length (now store) ⌝ }
     requires { ⌜ o ≤ length (now out) ⌝ }
-    ensures { λ r. ⌜ Exactly r (AgreedBoth (opened (now (text .entry)) (now (defs .entry)) (now (pattern .entry)) (take s (now (store .entry))) (take o (now (out .entry)))) answer (now (stored .entry)) (now (written .entry))) ⌝ }
+    ensures { λ r. ⌜ r ≡ agreedBoth (opened (now (text .entry)) (now (defs .entry)) (now (pattern .entry)) s o) answer (now (stored .entry)) (now (written .entry)) ⌝ }
 {
     agrees(
         text,
@@ -100,6 +99,7 @@ fn compare(
 ) -> Tally
     requires { ⌜ s + 10 ≤ length (now store) ⌝ }
     requires { ⌜ o + 10 ≤ length (now out) ⌝ }
+    ensures { λ r. ⌜ r .differ ≡ after (after (tally .differ) (agreedBoth (opened (now (text .entry)) (now (defs .entry)) (now (pattern .entry)) s o) answer (now (stored .entry)) (now (written .entry)))) (agreedBoth (opened (now (text .entry)) (now (defs .entry)) (now (pattern .entry)) (s + 10) (o + 10)) answer (now (stored .entry)) (now (written .entry))) ⌝ }
 {
     let exact = agrees_at(text, defs, pattern, store, s, out, o, answer, stored, written);
     let more = agrees_at(

@@ -3,8 +3,8 @@
 // second list, records; the most significant byte first. A case of `read.answers`: token count, text length, end position, record count (32 bits
 // each), the number returned (64 bits), tokens, text, records; the tokens are its first list here, and its second list is empty. The record count
 // is 0 after a refusal. differential/README.md says what the cases are and how the files are made.
-use crate::outputs::holds;
 use crate::outputs::prefill;
+use crate::outputs::same_answer;
 use crate::outputs::without_space;
 use crate::stored::filled;
 use crate::stored::list_space;
@@ -19,9 +19,9 @@ use words::word;
 ghost use mathlib.Core.Path.{_≡_};
 ghost use mathlib.Core.Bool.{true};
 ghost use Prim.Native.Nat.{_+_, _*_, _≤_};
-ghost use lib.ListN.{length, take};
-ghost use Rattle.replay.specs.Agreed.{Agreed};
-ghost use Rattle.replay.specs.Exactly.{Exactly};
+ghost use lib.ListN.{length};
+ghost use Rattle.replay.specs.Agreed.{agreed};
+ghost use Rattle.replay.specs.Counted.{afterRoom, afterShort};
 ghost use Rattle.replay.specs.Said.{says, said};
 ghost use Rattle.replay.specs.SmallCase.{SmallCase};
 
@@ -43,7 +43,7 @@ struct Case {
 }
 
 fn answer_of(entry: Entry, text: &[u8], first: &[u8], second: &[u8], end: u32, out: &mut [u8]) -> u64
-    ensures { λ r. ⌜ says r (now (out .exit)) ≡ said entry (now (text .entry)) (now (first .entry)) (now (second .entry)) end (now (out .entry)) ⌝ }
+    ensures { λ r. ⌜ says r (now (out .exit)) ≡ said entry (now (text .entry)) (now (first .entry)) (now (second .entry)) end (length (now (out .entry))) ⌝ }
 {
     match entry {
         Entry::Read => return read(first, text, end, out),
@@ -63,13 +63,11 @@ fn agrees(
     answer: u64,
     records: &[u8],
 ) -> bool
-    ensures { λ r. ⌜ Exactly r (Agreed (said entry (now (text .entry)) (now (first .entry)) (now (second .entry)) end (now (out .entry))) answer (now (records .entry))) ⌝ }
+    ensures { λ r. ⌜ r ≡ agreed (said entry (now (text .entry)) (now (first .entry)) (now (second .entry)) end (length (now (out .entry)))) answer (now (records .entry)) ⌝ }
 {
     prefill(out);
-    if answer_of(entry, text, first, second, end, out) != answer {
-        return false;
-    }
-    holds(out, records)
+    let number = answer_of(entry, text, first, second, end, out);
+    same_answer(number, out, answer, records)
 }
 
 // The same with an output of that size.
@@ -85,7 +83,7 @@ fn agrees_at(
     records: &[u8],
 ) -> bool
     requires { ⌜ size ≤ length (now out) ⌝ }
-    ensures { λ r. ⌜ Exactly r (Agreed (said entry (now (text .entry)) (now (first .entry)) (now (second .entry)) end (take size (now (out .entry)))) answer (now (records .entry))) ⌝ }
+    ensures { λ r. ⌜ r ≡ agreed (said entry (now (text .entry)) (now (first .entry)) (now (second .entry)) end size) answer (now (records .entry)) ⌝ }
 {
     agrees(entry, text, first, second, end, &mut out[..size], answer, records)
 }
@@ -102,10 +100,11 @@ fn compare_room(
     out: &mut [u8],
     tally: Tally,
 ) -> Tally
-    requires { ⌜ length (now records) + 3 * length (now first) + 1000 ≤ length (now out) ⌝ }
+    requires { ⌜ length (now records) + (3 * length (now first) + 1000) ≤ length (now out) ⌝ }
+    ensures { λ r. ⌜ r .differ ≡ afterRoom (tally .differ) (said entry (now (text .entry)) (now (first .entry)) (now (second .entry)) end) (3 * length (now (first .entry)) + 1000) answer (now (records .entry)) ⌝ }
 {
     let size = records.len();
-    let large = size + 3 * first.len() + 1000;
+    let large = size + (3 * first.len() + 1000);
     let exact = agrees_at(entry, text, first, second, end, out, size, answer, records);
     let larger = agrees_at(entry, text, first, second, end, out, large, answer, records);
     tally.call(exact).call(larger)
@@ -124,6 +123,7 @@ fn compare_short(
     tally: Tally,
 ) -> Tally
     requires { ⌜ size ≤ length (now out) ⌝ }
+    ensures { λ r. ⌜ r .differ ≡ afterShort (tally .differ) (said entry (now (text .entry)) (now (first .entry)) (now (second .entry)) end) answer size ⌝ }
 {
     if size == 0 {
         return tally;
@@ -143,7 +143,8 @@ fn compare(
     out: &mut [u8],
     tally: Tally,
 ) -> Tally
-    requires { ⌜ length (now records) + 3 * length (now first) + 1000 ≤ length (now out) ⌝ }
+    requires { ⌜ length (now records) + (3 * length (now first) + 1000) ≤ length (now out) ⌝ }
+    ensures { λ r. ⌜ r .differ ≡ afterShort (afterRoom (tally .differ) (said entry (now (text .entry)) (now (first .entry)) (now (second .entry)) end) (3 * length (now (first .entry)) + 1000) answer (now (records .entry))) (said entry (now (text .entry)) (now (first .entry)) (now (second .entry)) end) answer (length (now (records .entry))) ⌝ }
 {
     let t = compare_room(entry, text, first, second, end, answer, records, out, tally.case());
     compare_short(entry, text, first, second, end, answer, records.len(), out, t)

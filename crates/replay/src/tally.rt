@@ -1,5 +1,7 @@
 // What has been compared so far, and what is written of it.
 use std::num::wrapping_add_u64;
+ghost use mathlib.Core.Path.{_≡_};
+ghost use Rattle.replay.specs.Counted.{after};
 
 pub struct Tally {
     pub cases: u64,
@@ -20,24 +22,35 @@ impl Tally {
     }
 
     // A case begins.
-    pub fn case(self) -> Tally {
+    pub fn case(self) -> Tally
+        ensures { λ r. ⌜ r .differ ≡ self .differ ⌝ }
+    {
         let mut t = self;
         t.cases = wrapping_add_u64(t.cases, 1);
         t
     }
 
     // One call more of the present case, and whether it answered as it should.
-    pub fn call(self, good: bool) -> Tally {
+    pub fn call(self, good: bool) -> Tally
+        ensures { λ r. ⌜ r .differ ≡ after (self .differ) good ⌝ }
+    {
         let mut t = self;
         t.calls = wrapping_add_u64(t.calls, 1);
-        if !good {
-            t.differ = wrapping_add_u64(t.differ, 1);
-            if t.first == 0 {
-                t.first = t.cases;
-            }
+        if good {
+            return t;
         }
+        t.differ = wrapping_add_u64(t.differ, 1);
+        t.first = number_of_first(t.first, t.cases);
         t
     }
+}
+
+// The first difference stays the first.
+fn number_of_first(first: u64, cases: u64) -> u64 {
+    if first == 0 {
+        return cases;
+    }
+    first
 }
 
 // What a step leaves: the tally, and whether there may be another case.

@@ -1,3 +1,4 @@
+use Rattle.replay.proofs.AgreedLaws.{open-first}
 use mathlib.Core.Path.{sym}
 use native.Mathlib.Omega.{arith}
 use lib.Seq.{length-take-le}
@@ -27,7 +28,7 @@ same-length-2 : tie.Need-same-length-2
 same-length-2 c = search needs
 
 returns : tie.Need-returns
-returns c = search needs
+returns c = search open-first
 
 pub agrees-at-spec : {M : Type 1} → statement M
 agrees-at-spec =

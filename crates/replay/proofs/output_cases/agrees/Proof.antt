@@ -1,4 +1,4 @@
-use Rattle.replay.proofs.OutputLaws.{output-other, output-compared}
+use Rattle.replay.proofs.AgreedLaws.{output-compared}
 use borrow.Author.Needs.{needs}
 use Rattle.replay.proofs.output_cases.agrees.Statement.{statement}
 use Rattle.replay.proofs.output_cases.agrees.Tie as tie
@@ -9,29 +9,16 @@ prefill-requires c κs = search needs
 answer-of-requires : tie.Need-answer-of-requires
 answer-of-requires c κs = search needs
 
+same-answer-requires : tie.Need-same-answer-requires
+same-answer-requires c κs = search needs
+
 same-length : tie.Need-same-length
 same-length c = search needs
 
 returns : tie.Need-returns
-returns c = search output-other
-
-holds-requires : tie.Need-holds-requires
-holds-requires c κs = search needs
-
-same-length-2 : tie.Need-same-length-2
-same-length-2 c = search needs
-
-returns-2 : tie.Need-returns-2
-returns-2 c = search output-compared
+returns c = search output-compared
 
 pub agrees-spec : {M : Type 1} → statement M
 agrees-spec =
     tie.close
-    (tie.spec
-    prefill-requires
-    answer-of-requires
-    same-length
-    returns
-    holds-requires
-    same-length-2
-    returns-2)
+    (tie.spec prefill-requires answer-of-requires same-answer-requires same-length returns)

@@ -1,3 +1,4 @@
+use Rattle.replay.proofs.AgreedLaws.{output-first}
 use mathlib.Core.Path.{sym}
 use native.Mathlib.Omega.{arith}
 use lib.Seq.{length-take-le}
@@ -18,7 +19,7 @@ same-length : tie.Need-same-length
 same-length c = search needs
 
 returns : tie.Need-returns
-returns c = search needs
+returns c = search output-first
 
 pub agrees-at-spec : {M : Type 1} → statement M
 agrees-at-spec =

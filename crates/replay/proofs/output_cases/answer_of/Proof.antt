@@ -1,4 +1,4 @@
-use Rattle.replay.proofs.OutputLaws.{said-read, said-make, said-fill}
+use Rattle.replay.proofs.AgreedLaws.{said-read, said-make, said-fill}
 use borrow.Author.Needs.{needs}
 use Rattle.replay.proofs.output_cases.answer_of.Statement.{statement}
 use Rattle.replay.proofs.output_cases.answer_of.Tie as tie
