@@ -1,3 +1,4 @@
 pub mod HeldLaws
 pub mod AgreedLaws
 pub mod CountLaws
+pub mod Meaning
