@@ -1,14 +1,14 @@
 -- Comparing what a call returned and left with stored answers: r is the number, l the output, k the store. The bytes lent to be written were
 -- overwritten before the call, and stayed as many: n or m before, n′ or m′ then. Assumes nothing.
-use Prim.Native.Nat.{ℕ, _/_, _≤_}
-use mathlib.Core.Path.{_≡_, refl}
+use Prim.Native.Nat.{ℕ, _≤_}
+use mathlib.Core.Path.{_≡_}
 use mathlib.Core.Bool.{Bool, true, false, not}
 use mathlib.Core.List.{List}
 use lib.ListN.{length, take, length-replicate}
 use lib.Seq.{length-take-le}
 use borrow.Author.Tests.{eq-eqb, ne-eqb, not-true, not-false}
 use Rattle.records.specs.Slots.{slots}
-use Rattle.tokens.specs.Input.{Input, input}
+use Rattle.tokens.specs.Input.{input}
 use Rattle.parser.specs.Reading.{reading}
 use Rattle.reading.specs.Answered.{Answered}
 use Rattle.templates.specs.Answers.{space}
@@ -17,7 +17,7 @@ use Rattle.opening.specs.Answers.{spaceOf}
 use Rattle.openings.specs.Calls.{Left, openingOf}
 use Rattle.replay.specs.declared.output_cases.Entry.{Entry}
 use Rattle.replay.specs.declared.output_cases.Entry.the-variants.{Read, Make, Fill}
-use Rattle.replay.specs.Said.{Said, SaidBoth, says, saysBoth, said, opened, lent}
+use Rattle.replay.specs.Said.{says, saysBoth, said, opened}
 use Rattle.replay.specs.Agreed.{held, agreed, agreedBoth}
 
 -- ---- one output

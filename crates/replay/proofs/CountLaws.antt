@@ -6,9 +6,9 @@ use mathlib.Core.List.{List, []}
 use lib.ListN.{length}
 use borrow.Author.Tests.{eq-eqb, ne-eqb, lt-ltb, le-ltb}
 use Rattle.records.specs.Result.{refused}
-use Rattle.replay.specs.Said.{Said}
-use Rattle.replay.specs.Agreed.{agreed}
-use Rattle.replay.specs.Counted.{after, withoutSpace, afterRoom, afterShort}
+use Rattle.replay.specs.Said.{Said, SaidBoth}
+use Rattle.replay.specs.Agreed.{agreed, agreedBoth}
+use Rattle.replay.specs.Counted.{after, withoutSpace, afterRoom, afterShort, afterCase, afterOpening}
 
 pub same-count : (d : ℕ) (good : Bool) → good ≡ true → d ≡ after d good
 unfolding after
@@ -39,8 +39,10 @@ module _ (s : ℕ → Said) (answer d : ℕ) where
   unfolding afterShort
   short-counted n z x a h e f g = rw (ne-eqb n 0 h, ← e, ← f) g
 
-  pub case-counted : (more n : ℕ) (records : List ℕ) (x y z : ℕ) → x ≡ d → y ≡ afterRoom x s more answer records → z ≡ afterShort y s answer n → z ≡ afterShort (afterRoom d s more answer records) s answer n
-  case-counted more n records x y z e f g = rw (← e, ← f) g
+  pub case-counted : (more : ℕ) (records : List ℕ) (x y z : ℕ) → x ≡ d → y ≡ afterRoom x s more answer records → z ≡ afterShort y s answer (length records) → z ≡ afterCase d s more answer records
+  unfolding afterCase
+  case-counted more records x y z e f g = rw (← e, ← f) g
 
-pub both-counted : (d w x y : ℕ) (a b p q : Bool) → a ≡ p → b ≡ q → w ≡ d → x ≡ after w a → y ≡ after x b → y ≡ after (after d p) q
-both-counted d w x y a b p q e f i g h = rw (← e, ← f, ← i, ← g) h
+pub opening-counted : (s : ℕ → ℕ → SaidBoth) (n m answer : ℕ) (templates records : List ℕ) (d w x y : ℕ) (a b : Bool) → a ≡ agreedBoth (s n m) answer templates records → b ≡ agreedBoth (s (n + 10) (m + 10)) answer templates records → w ≡ d → x ≡ after w a → y ≡ after x b → y ≡ afterOpening d s n m answer templates records
+unfolding afterOpening
+opening-counted s n m answer templates records d w x y a b e f i g h = rw (← e, ← f, ← i, ← g) h

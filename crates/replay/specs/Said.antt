@@ -2,7 +2,7 @@
 use Prim.Native.Nat.{ℕ, _/_}
 use mathlib.Core.List.{List}
 use lib.ListN.{replicate}
-use Rattle.tokens.specs.Input.{Input, input}
+use Rattle.tokens.specs.Input.{input}
 use Rattle.grounds.specs.Opening.{Outcome}
 use Rattle.parser.specs.Reading as reader
 use Rattle.templating.specs.Calls as lists

@@ -16,7 +16,7 @@ ghost use mathlib.Core.Bool.{true};
 ghost use Prim.Native.Nat.{_+_, _≤_};
 ghost use lib.ListN.{length};
 ghost use Rattle.replay.specs.Agreed.{agreedBoth};
-ghost use Rattle.replay.specs.Counted.{after};
+ghost use Rattle.replay.specs.Counted.{afterOpening};
 ghost use Rattle.replay.specs.Said.{opened};
 ghost use Rattle.replay.specs.SmallOpening.{SmallOpening};
 
@@ -99,21 +99,10 @@ fn compare(
 ) -> Tally
     requires { ⌜ s + 10 ≤ length (now store) ⌝ }
     requires { ⌜ o + 10 ≤ length (now out) ⌝ }
-    ensures { λ r. ⌜ r .differ ≡ after (after (tally .differ) (agreedBoth (opened (now (text .entry)) (now (defs .entry)) (now (pattern .entry)) s o) answer (now (stored .entry)) (now (written .entry)))) (agreedBoth (opened (now (text .entry)) (now (defs .entry)) (now (pattern .entry)) (s + 10) (o + 10)) answer (now (stored .entry)) (now (written .entry))) ⌝ }
+    ensures { λ r. ⌜ r .differ ≡ afterOpening (tally .differ) (opened (now (text .entry)) (now (defs .entry)) (now (pattern .entry))) s o answer (now (stored .entry)) (now (written .entry)) ⌝ }
 {
     let exact = agrees_at(text, defs, pattern, store, s, out, o, answer, stored, written);
-    let more = agrees_at(
-        text,
-        defs,
-        pattern,
-        store,
-        s + 10,
-        out,
-        o + 10,
-        answer,
-        stored,
-        written,
-    );
+    let more = agrees_at(text, defs, pattern, store, s + 10, out, o + 10, answer, stored, written);
     tally.case().call(exact).call(more)
 }
 

@@ -21,7 +21,7 @@ ghost use mathlib.Core.Bool.{true};
 ghost use Prim.Native.Nat.{_+_, _*_, _≤_};
 ghost use lib.ListN.{length};
 ghost use Rattle.replay.specs.Agreed.{agreed};
-ghost use Rattle.replay.specs.Counted.{afterRoom, afterShort};
+ghost use Rattle.replay.specs.Counted.{afterRoom, afterShort, afterCase};
 ghost use Rattle.replay.specs.Said.{says, said};
 ghost use Rattle.replay.specs.SmallCase.{SmallCase};
 
@@ -144,7 +144,7 @@ fn compare(
     tally: Tally,
 ) -> Tally
     requires { ⌜ length (now records) + (3 * length (now first) + 1000) ≤ length (now out) ⌝ }
-    ensures { λ r. ⌜ r .differ ≡ afterShort (afterRoom (tally .differ) (said entry (now (text .entry)) (now (first .entry)) (now (second .entry)) end) (3 * length (now (first .entry)) + 1000) answer (now (records .entry))) (said entry (now (text .entry)) (now (first .entry)) (now (second .entry)) end) answer (length (now (records .entry))) ⌝ }
+    ensures { λ r. ⌜ r .differ ≡ afterCase (tally .differ) (said entry (now (text .entry)) (now (first .entry)) (now (second .entry)) end) (3 * length (now (first .entry)) + 1000) answer (now (records .entry)) ⌝ }
 {
     let t = compare_room(entry, text, first, second, end, answer, records, out, tally.case());
     compare_short(entry, text, first, second, end, answer, records.len(), out, t)

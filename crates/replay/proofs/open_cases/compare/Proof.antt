@@ -1,4 +1,4 @@
-use Rattle.replay.proofs.CountLaws.{both-counted}
+use Rattle.replay.proofs.CountLaws.{opening-counted}
 use borrow.Author.Needs.{needs}
 use Rattle.replay.proofs.open_cases.compare.Statement.{statement}
 use Rattle.replay.proofs.open_cases.compare.Tie as tie
@@ -31,7 +31,7 @@ same-length-2 : tie.Need-same-length-2
 same-length-2 c = search needs
 
 returns : tie.Need-returns
-returns c = search both-counted
+returns c = search opening-counted
 
 pub compare-spec : {M : Type 1} → statement M
 compare-spec =
