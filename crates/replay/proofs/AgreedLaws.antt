@@ -1,5 +1,5 @@
 -- Comparing what a call returned and left with stored answers: r is the number, l the output, k the store. The bytes lent to be written were
--- overwritten before the call, and stayed as many: n or m before, n′ or m′ then. Assumes nothing.
+-- overwritten before the call, and stayed as many: n and m before; n′, or the lengths of s and o, then. Assumes nothing.
 use Prim.Native.Nat.{ℕ, _≤_}
 use mathlib.Core.Path.{_≡_}
 use mathlib.Core.Bool.{Bool, true, false, not}
