@@ -4,6 +4,8 @@ pub const WIDTH: usize = 24;
 pub const MAX_TOKENS: usize = 16_384;
 pub const MAX_TEXT: usize = 65_536;
 pub const MAX_RECORDS: usize = 65_536;
+/// The most records of a list for which the library takes a small table.
+pub const SMALL_TABLE: usize = 4_096;
 
 /// One record: three 64-bit words.
 pub type Words = [u64; 3];

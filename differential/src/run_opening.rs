@@ -126,10 +126,9 @@ fn compare_every_change(text: &str, counts: &mut Counts) -> Result<(), String> {
     Ok(())
 }
 
-/// Lists of 65,536 records and of one more, long texts, and patterns far too deep.
+/// Lists of 65,536 records and of one more, lists about as long as the small table, long texts,
+/// and patterns far too deep.
 fn compare_limits(counts: &mut Counts) -> Result<(), String> {
-    // An `attr` and its name: two records for each definition.
-    let attr = [[12 << 56 | 1 << 32, 0, 0], [24 << 56, pair(0, 1), 0]];
     let most = MAX_RECORDS - 1;
     let patterns = [
         and(wildcards(1)),
@@ -140,16 +139,28 @@ fn compare_limits(counts: &mut Counts) -> Result<(), String> {
     for text in [MAX_TEXT, MAX_TEXT + 1] {
         for defs in [MAX_RECORDS / 2, MAX_RECORDS / 2 + 1] {
             for pattern in &patterns {
-                let lists = Lists {
-                    text: vec![b'x'; text],
-                    first: bytes_of(&vec![attr; defs].concat()),
-                    second: bytes_of(pattern),
-                };
+                let lists = attrs_and(defs, pattern, text);
                 one(&lists, &open(&lists), 50, counts)?;
             }
         }
     }
+    for defs in [SMALL_TABLE / 2, SMALL_TABLE / 2 + 1] {
+        for size in [SMALL_TABLE - 1, SMALL_TABLE, SMALL_TABLE + 1] {
+            let lists = attrs_and(defs, &and(wildcards(size - 1)), 1);
+            one(&lists, &open(&lists), 50, counts)?;
+        }
+    }
     Ok(())
+}
+
+/// So many `attr`s, each two records with its name, and a pattern.
+fn attrs_and(defs: usize, pattern: &[Words], text: usize) -> Lists {
+    let attr = [[12 << 56 | 1 << 32, 0, 0], [24 << 56, pair(0, 1), 0]];
+    Lists {
+        text: vec![b'x'; text],
+        first: bytes_of(&vec![attr; defs].concat()),
+        second: bytes_of(pattern),
+    }
 }
 
 /// The stack that the entry may use in all.

@@ -105,8 +105,8 @@ fn lists(text: usize, first: Vec<Words>, second: Vec<Words>) -> Lists {
     }
 }
 
-/// Lists of 65,536 records and of one more, long texts, deep trees, and results that no
-/// space holds.
+/// Lists of 65,536 records and of one more, lists about as long as the small table, long texts,
+/// deep trees, and results that no space holds.
 fn compare_limits(made: &mut Counts, substituted: &mut Counts) -> Result<(), String> {
     let deepest = MAX_RECORDS - 1;
     for text in [MAX_TEXT, MAX_TEXT + 1] {
@@ -116,6 +116,13 @@ fn compare_limits(made: &mut Counts, substituted: &mut Counts) -> Result<(), Str
             let last = vec![macro_arg(deepest as u64)];
             SUBSTITUTE.compare(&lists(text, last, wildcards(count)), substituted)?;
         }
+    }
+    for count in [SMALL_TABLE - 1, SMALL_TABLE, SMALL_TABLE + 1] {
+        let full = || and(wildcards(count - 1));
+        MAKE_TEMPLATE.compare(&lists(1, full(), vec![IDENT; count]), made)?;
+        SUBSTITUTE.compare(&lists(1, full(), wildcards(count)), substituted)?;
+        let deep = chain(count - 1, macro_arg(0));
+        SUBSTITUTE.compare(&lists(1, deep, full()), substituted)?;
     }
     MAKE_TEMPLATE.compare(&lists(1, chain(deepest, WILDCARD), vec![IDENT]), made)?;
     MAKE_TEMPLATE.compare(&lists(1, chain(deepest, macro_arg(0)), vec![IDENT]), made)?;
