@@ -23,18 +23,37 @@ pub fn end_at(ends: &[u32], k: usize) -> usize
     wide(ends[k])
 }
 
-// The index after the c trees of the source from the index `at` on.
-pub fn hop(src: &[u8], ends: &[u32], at: usize, c: usize) -> usize
-    requires { ⌜ EndsFrom (recs (now src)) (now ends) at × (slots (now src) ≤ length (now ends)) × (c ≤ count (treesOf (drop at (recs (now src))))) ⌝ }
+// The index after the c trees of the source from the index `at` on, where `from` is the index after `last` of them.
+fn hop_from(src: &[u8], ends: &[u32], at: usize, from: usize, last: usize, c: usize) -> usize
+    requires { ⌜ EndsFrom (recs (now src)) (now ends) at × (slots (now src) ≤ length (now ends)) × (c ≤ count (treesOf (drop at (recs (now src))))) × (from ≡ at + span (drop at (recs (now src))) last) × (last ≤ c) ⌝ }
     ensures { λ r. ⌜ r ≡ at + span (drop at (recs (now (src .entry)))) c ⌝ }
 {
-    let mut a = at;
-    let mut j = 0;
+    let mut a = from;
+    let mut j = last;
     while j < c {
         a = end_at(ends, a);
         j += 1;
     }
     a
+}
+
+// The index after the c trees of the source from the index `at` on.
+pub fn hop(src: &[u8], ends: &[u32], at: usize, c: usize) -> usize
+    requires { ⌜ EndsFrom (recs (now src)) (now ends) at × (slots (now src) ≤ length (now ends)) × (c ≤ count (treesOf (drop at (recs (now src))))) ⌝ }
+    ensures { λ r. ⌜ r ≡ at + span (drop at (recs (now (src .entry)))) c ⌝ }
+{
+    hop_from(src, ends, at, at, 0, c)
+}
+
+// The same, going on from the index after `last` trees if that is not too far: trees taken in their order are passed once each.
+pub fn hop_on(src: &[u8], ends: &[u32], at: usize, from: usize, last: usize, c: usize) -> usize
+    requires { ⌜ EndsFrom (recs (now src)) (now ends) at × (slots (now src) ≤ length (now ends)) × (c ≤ count (treesOf (drop at (recs (now src))))) × (from ≡ at + span (drop at (recs (now src))) last) ⌝ }
+    ensures { λ r. ⌜ r ≡ at + span (drop at (recs (now (src .entry)))) c ⌝ }
+{
+    if last <= c {
+        return hop_from(src, ends, at, from, last, c);
+    }
+    hop(src, ends, at, c)
 }
 
 // Fills the table, from the last record back: each tree ends where its last child does.

@@ -1,6 +1,6 @@
 // Opening a tree of the source into the store or into the output. It stops as soon as the space is full.
 use crate::ends::end_at;
-use crate::ends::hop;
+use crate::ends::hop_on;
 use crate::made::call_at;
 use crate::made::made_at;
 use records::put;
@@ -59,10 +59,14 @@ fn scan(
     let end = starts[x + 1];
     let mut j = starts[x];
     let mut y = m;
+    let mut from = k + 1;
+    let mut last = 0;
     while j < end {
         let r = rec_at(store, j);
         if r.kind == Head::PATTERN_MACRO_ARG {
-            let a = hop(src, ends, k + 1, r.word1 as usize + 1);
+            let c = r.word1 as usize + 1;
+            from = hop_on(src, ends, k + 1, from, last, c);
+            last = c;
             y = open_one(
                 text,
                 table,
@@ -75,7 +79,7 @@ fn scan(
                 store,
                 out,
                 outward,
-                a,
+                from,
                 y,
                 space,
             );
