@@ -8,7 +8,7 @@ use steps::expect_lparen;
 use steps::expect_rparen;
 use steps::expect_word;
 use steps::goes_on;
-use steps::ident_node;
+use steps::ident_node_of;
 use steps::inside;
 use steps::leaf_at;
 use steps::next_token;
@@ -53,7 +53,7 @@ pub fn parse_expr(
         return leaf_at(tokens, end, out, p, Head::EXPR_BOOL, 0);
     }
     if t.is_symbol() {
-        return ident_node(tokens, text, end, out, p, Head::EXPR_VAR);
+        return ident_node_of(tokens, text, end, out, p, Head::EXPR_VAR, t);
     }
     if t.is_int() {
         let h = Head {

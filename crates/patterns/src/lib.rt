@@ -8,7 +8,7 @@ use steps::expect_lparen;
 use steps::expect_rparen;
 use steps::expect_word;
 use steps::goes_on;
-use steps::ident_node;
+use steps::ident_node_of;
 use steps::inside;
 use steps::leaf_at;
 use steps::next_token;
@@ -16,6 +16,7 @@ use steps::parse_ident;
 use steps::put_leaf;
 use steps::refuse_at;
 use steps::second_token;
+use tokens::Token;
 use trees::Head;
 ghost use mathlib.Core.Path.{_≡_};
 ghost use Prim.Native.Nat.{ℕ, _+_, _-_, _/_, _≤_, _<_};
@@ -23,7 +24,7 @@ ghost use Rattle.trees.specs.Ast.{Pattern·Bind, Pattern·And, Pattern·Term};
 ghost use Rattle.tokens.specs.Input.{Input, input};
 ghost use Rattle.steps.specs.Keywords.{word-and};
 ghost use Rattle.steps.specs.Outcome.{_⊳_, parent, row, expect-lparen, expect-rparen, expect-at, expect-word, parseIdent};
-ghost use Rattle.steps.specs.Met.{Ready, Chained};
+ghost use Rattle.steps.specs.Met.{Ready, Chained, tokenFor};
 ghost use Rattle.patterns.specs.Pattern.{compound, parsePattern};
 
 // The pattern at p, of at most this depth.
@@ -64,10 +65,10 @@ pub fn parse_pattern(
     if t.is_word(text, b"false") {
         return leaf_at(tokens, end, out, p, Head::PATTERN_BOOL, 0);
     }
-    parse_compound(tokens, text, end, out, p, depth - 1)
+    parse_compound(tokens, text, end, out, p, depth - 1, t)
 }
 
-// A pattern that is a name, bound or not, or stands in parentheses; the patterns inside are of at most this depth.
+// A pattern that is a name, bound or not, or stands in parentheses, by the next token t; the patterns inside are of at most this depth.
 fn parse_compound(
     tokens: &[u8],
     text: &[u8],
@@ -75,17 +76,18 @@ fn parse_compound(
     out: &mut [u8],
     p: Parsed,
     depth: usize,
+    t: Token,
 ) -> Parsed
     requires { ⌜ Ready 3 (input (now tokens) (now text) end) p ⌝ }
+    requires { ⌜ t ≡ tokenFor (now tokens) end p ⌝ }
     ensures { λ r. ⌜ Chained (compound (input (now (tokens .entry)) (now (text .entry)) end) (parsePattern (input (now (tokens .entry)) (now (text .entry)) end) depth)) p (now (out .entry)) (now (out .exit)) r ⌝ }
 {
-    let t = next_token(tokens, end, p);
     let u = second_token(tokens, end, p);
     if t.is_symbol() {
         if u.is_at() {
             return parse_bind(tokens, text, end, out, p, depth);
         }
-        return ident_node(tokens, text, end, out, p, Head::PATTERN_VAR);
+        return ident_node_of(tokens, text, end, out, p, Head::PATTERN_VAR, t);
     }
     if t.is_lparen() {
         if u.is_word(text, b"and") {

@@ -260,6 +260,16 @@ pub refused-here : (tokens : List ℕ) (end code : ℕ) (p : Parsed) (i n k : �
 unfolding moved movedTo refuseFrom
 refused-here tokens end code p i n k t e a = rw (e, a)
 
+-- the next token at a state that is known, and where a node's children begin
+pub token-here : (tokens : List ℕ) (end i n k : ℕ) (t : Token) (p : Parsed) → t ≡ tokenFor tokens end p → p ≡ Accepted i n k → t ≡ tokenAt tokens end i
+unfolding tokenFor
+token-here tokens end i n k t p e a = e ∙ rw a
+
+pub token-inside : (tokens : List ℕ) (end : ℕ) (t : Token) (p q : Parsed) → t ≡ tokenFor tokens end p → q ≡ inside p → t ≡ tokenFor tokens end q
+unfolding tokenFor inside
+token-inside tokens end t (Accepted i n k) q e a = e ∙ sym (ap (tokenFor tokens end) a)
+token-inside tokens end t (Refused d) q e a = e ∙ sym (ap (tokenFor tokens end) a)
+
 pub closed-at : (tokens : List ℕ) (end kind flags : ℕ) (t : Token) (p q r : Parsed) (l l′ : List ℕ) → t ≡ tokenFor tokens end p → Closed (head kind flags (t .pos) 0 0) p q l l′ r → Closed (head kind flags (tokenFor tokens end p .pos) 0 0) p q l l′ r
 closed-at tokens end kind flags t p q r l l′ e c = rw e at c
 

@@ -225,10 +225,19 @@ pub fn parse_ident(tokens: &[u8], text: &[u8], end: u32, out: &mut [u8], p: Pars
     requires { ⌜ Ready 4 (input (now tokens) (now text) end) p ⌝ }
     ensures { λ r. ⌜ Chained (parseIdent (input (now (tokens .entry)) (now (text .entry)) end)) p (now (out .entry)) (now (out .exit)) r ⌝ }
 {
+    let t = next_token(tokens, end, p);
+    ident_of(tokens, text, end, out, p, t)
+}
+
+// The same by the next token t.
+fn ident_of(tokens: &[u8], text: &[u8], end: u32, out: &mut [u8], p: Parsed, t: Token) -> Parsed
+    requires { ⌜ Ready 4 (input (now tokens) (now text) end) p ⌝ }
+    requires { ⌜ t ≡ tokenFor (now tokens) end p ⌝ }
+    ensures { λ r. ⌜ Chained (parseIdent (input (now (tokens .entry)) (now (text .entry)) end)) p (now (out .entry)) (now (out .exit)) r ⌝ }
+{
     let Parsed::Accepted { next, count, items } = p else {
         return p;
     };
-    let t = peek(tokens, end, next);
     if t.is_symbol() {
         let c = ident_refusal(spelling(text, t.word1));
         return put_ident(tokens, out, next, count, items, t, t.word1, c);
@@ -390,23 +399,33 @@ pub fn refuse_at(tokens: &[u8], end: u32, p: Parsed, code: u8) -> Parsed
     })
 }
 
-// A node over one name, over the name of a constant.
-pub fn ident_node(
+// A node over one name, by the next token t, which its caller has read already.
+pub fn ident_node_of(
     tokens: &[u8],
     text: &[u8],
     end: u32,
     out: &mut [u8],
     p: Parsed,
     kind: u8,
+    t: Token,
 ) -> Parsed
     requires { ⌜ Ready 3 (input (now tokens) (now text) end) p ⌝ }
+    requires { ⌜ t ≡ tokenFor (now tokens) end p ⌝ }
     ensures { λ r. ⌜ Chained (parent (input (now (tokens .entry)) (now (text .entry)) end) kind 0 (parseIdent (input (now (tokens .entry)) (now (text .entry)) end))) p (now (out .entry)) (now (out .exit)) r ⌝ }
 {
     let children = inside(p);
-    let q = parse_ident(tokens, text, end, out, children);
-    close_at(tokens, end, out, p, kind, 0, q)
+    let q = ident_of(tokens, text, end, out, children, t);
+    let h = Head {
+        kind,
+        flags: 0,
+        pos: t.pos,
+        word1: 0,
+        word2: 0,
+    };
+    close(out, p, h, q)
 }
 
+// A node over the name of a constant.
 pub fn const_node(
     tokens: &[u8],
     text: &[u8],

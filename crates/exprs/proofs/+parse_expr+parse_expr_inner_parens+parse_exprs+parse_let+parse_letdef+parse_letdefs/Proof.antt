@@ -37,7 +37,7 @@ use Rattle.steps.proofs.expect_lparen.Reads as expect-lparen-reads
 use Rattle.steps.proofs.expect_rparen.Reads as expect-rparen-reads
 use Rattle.steps.proofs.expect_word.Reads as expect-word-reads
 use Rattle.steps.proofs.goes_on.Reads as goes-on-reads
-use Rattle.steps.proofs.ident_node.Reads as ident-node-reads
+use Rattle.steps.proofs.ident_node_of.Reads as ident-node-of-reads
 use Rattle.steps.proofs.inside.Reads as inside-reads
 use Rattle.steps.proofs.leaf_at.Reads as leaf-at-reads
 use Rattle.steps.proofs.next_token.Reads as next-token-reads
@@ -136,7 +136,7 @@ parse-letdefs-below t =
 
 abbrev parse-expr-calls : ℕ → parse-expr-lts.Claims
 parse-expr-calls t =
-    (refuse-at-reads.Asked, refuse-at-reads.Learnt, next-token-reads.Asked, next-token-reads.Learnt, is-lparen-reads.Asked, is-lparen-reads.Learnt, parse-expr-inner-parens-below t, parse-expr-inner-parens.Post, is-const-reads.Asked, is-const-reads.Learnt, const-node-reads.Asked, const-node-reads.Learnt, is-word-reads.Asked, is-word-reads.Learnt, leaf-at-reads.Asked, leaf-at-reads.Learnt, is-symbol-reads.Asked, is-symbol-reads.Learnt, ident-node-reads.Asked, ident-node-reads.Learnt, is-int-reads.Asked, is-int-reads.Learnt, put-leaf-reads.Asked, put-leaf-reads.Learnt)
+    (refuse-at-reads.Asked, refuse-at-reads.Learnt, next-token-reads.Asked, next-token-reads.Learnt, is-lparen-reads.Asked, is-lparen-reads.Learnt, parse-expr-inner-parens-below t, parse-expr-inner-parens.Post, is-const-reads.Asked, is-const-reads.Learnt, const-node-reads.Asked, const-node-reads.Learnt, is-word-reads.Asked, is-word-reads.Learnt, leaf-at-reads.Asked, leaf-at-reads.Learnt, is-symbol-reads.Asked, is-symbol-reads.Learnt, ident-node-of-reads.Asked, ident-node-of-reads.Learnt, is-int-reads.Asked, is-int-reads.Learnt, put-leaf-reads.Asked, put-leaf-reads.Learnt)
 
 abbrev parse-expr-inner-parens-calls : ℕ → parse-expr-inner-parens-lts.Claims
 parse-expr-inner-parens-calls t =
@@ -231,15 +231,15 @@ parse-expr-returns-5 t c = not-too-deep _ _ _ _ _ _ (c .before .before .before .
 parse-expr-is-symbol-requires : (t : ℕ) → parse-expr-lts.Need-is-symbol-requires (parse-expr-calls t) (parse-expr-at t) parse-expr.Post
 parse-expr-is-symbol-requires t c κs = search needs
 
-parse-expr-ident-node-requires : (t : ℕ) → parse-expr-lts.Need-ident-node-requires (parse-expr-calls t) (parse-expr-at t) parse-expr.Post
-parse-expr-ident-node-requires t c κs = search needs
+parse-expr-ident-node-of-requires : (t : ℕ) → parse-expr-lts.Need-ident-node-of-requires (parse-expr-calls t) (parse-expr-at t) parse-expr.Post
+parse-expr-ident-node-of-requires t c κs = (search needs, search needs)
 
 parse-expr-same-length-5 : (t : ℕ) → parse-expr-lts.Need-same-length-5 (parse-expr-calls t) (parse-expr-at t) parse-expr.Post
 parse-expr-same-length-5 t c = search needs
 
 parse-expr-returns-6 : (t : ℕ) → parse-expr-lts.Need-returns-6 (parse-expr-calls t) (parse-expr-at t) parse-expr.Post
 unfolding exprIn
-parse-expr-returns-6 t c = not-too-deep _ _ _ _ _ _ (c .before .before .before .before .before .before .before .before .before .before .before .before .before .before .before .before .before .if1 .left) (next-no _ _ _ _ _ _ _ _ _ _ _ _ (c .before .before .before .before .before .before .before .before .before .before .before .before .before .before .before .before .next-token .ensures) (c .before .before .before .before .before .before .before .before .before .before .before .before .before .before .before .is-lparen .ensures) (c .before .before .before .before .before .before .before .before .before .before .before .before .before .before .if2 .left) (next-no _ _ _ _ _ _ _ _ _ _ _ _ (c .before .before .before .before .before .before .before .before .before .before .before .before .before .before .before .before .next-token .ensures) (c .before .before .before .before .before .before .before .before .before .before .before .before .before .is-const .ensures) (c .before .before .before .before .before .before .before .before .before .before .before .before .if3 .left) (next-no _ _ _ _ _ _ _ _ _ _ _ _ (c .before .before .before .before .before .before .before .before .before .before .before .before .before .before .before .before .next-token .ensures) (c .before .before .before .before .before .before .before .before .before .before .is-word .ensures) (c .before .before .before .before .before .before .before .before .before .if4 .left) (next-no _ _ _ _ _ _ _ _ _ _ _ _ (c .before .before .before .before .before .before .before .before .before .before .before .before .before .before .before .before .next-token .ensures) (c .before .before .before .before .before .before .before .is-word2 .ensures) (c .before .before .before .before .before .before .if5 .left) (next-yes _ _ _ _ _ _ _ _ _ _ _ _ (c .before .before .before .before .before .before .before .before .before .before .before .before .before .before .before .before .next-token .ensures) (c .before .before .before .before .before .is-symbol .ensures) (c .before .before .before .before .if6 .taken) (c .before .before .ident-node .ensures))))))
+parse-expr-returns-6 t c = not-too-deep _ _ _ _ _ _ (c .before .before .before .before .before .before .before .before .before .before .before .before .before .before .before .before .before .if1 .left) (next-no _ _ _ _ _ _ _ _ _ _ _ _ (c .before .before .before .before .before .before .before .before .before .before .before .before .before .before .before .before .next-token .ensures) (c .before .before .before .before .before .before .before .before .before .before .before .before .before .before .before .is-lparen .ensures) (c .before .before .before .before .before .before .before .before .before .before .before .before .before .before .if2 .left) (next-no _ _ _ _ _ _ _ _ _ _ _ _ (c .before .before .before .before .before .before .before .before .before .before .before .before .before .before .before .before .next-token .ensures) (c .before .before .before .before .before .before .before .before .before .before .before .before .before .is-const .ensures) (c .before .before .before .before .before .before .before .before .before .before .before .before .if3 .left) (next-no _ _ _ _ _ _ _ _ _ _ _ _ (c .before .before .before .before .before .before .before .before .before .before .before .before .before .before .before .before .next-token .ensures) (c .before .before .before .before .before .before .before .before .before .before .is-word .ensures) (c .before .before .before .before .before .before .before .before .before .if4 .left) (next-no _ _ _ _ _ _ _ _ _ _ _ _ (c .before .before .before .before .before .before .before .before .before .before .before .before .before .before .before .before .next-token .ensures) (c .before .before .before .before .before .before .before .is-word2 .ensures) (c .before .before .before .before .before .before .if5 .left) (next-yes _ _ _ _ _ _ _ _ _ _ _ _ (c .before .before .before .before .before .before .before .before .before .before .before .before .before .before .before .before .next-token .ensures) (c .before .before .before .before .before .is-symbol .ensures) (c .before .before .before .before .if6 .taken) (c .before .before .ident-node-of .ensures))))))
 
 parse-expr-is-int-requires : (t : ℕ) → parse-expr-lts.Need-is-int-requires (parse-expr-calls t) (parse-expr-at t) parse-expr.Post
 parse-expr-is-int-requires t c κs = search needs
@@ -454,7 +454,7 @@ pub +parse-expr+parse-expr-inner-parens+parse-exprs+parse-let+parse-letdef+parse
     (parse-expr-same-length-4 t)
     (parse-expr-returns-5 t)
     (parse-expr-is-symbol-requires t)
-    (parse-expr-ident-node-requires t)
+    (parse-expr-ident-node-of-requires t)
     (parse-expr-same-length-5 t)
     (parse-expr-returns-6 t)
     (parse-expr-is-int-requires t)

@@ -38,7 +38,7 @@ use Rattle.steps.proofs.expect_lparen.Reads as expect-lparen-reads
 use Rattle.steps.proofs.expect_rparen.Reads as expect-rparen-reads
 use Rattle.steps.proofs.expect_word.Reads as expect-word-reads
 use Rattle.steps.proofs.goes_on.Reads as goes-on-reads
-use Rattle.steps.proofs.ident_node.Reads as ident-node-reads
+use Rattle.steps.proofs.ident_node_of.Reads as ident-node-of-reads
 use Rattle.steps.proofs.inside.Reads as inside-reads
 use Rattle.steps.proofs.leaf_at.Reads as leaf-at-reads
 use Rattle.steps.proofs.next_token.Reads as next-token-reads
@@ -198,10 +198,7 @@ parse-bind-returns t c = node-read _ _ _ _ _ _ _ _ _ _ _ _ _ (c .before .before 
 
 abbrev parse-compound-calls : ℕ → parse-compound-lts.Claims
 parse-compound-calls t =
-    (next-token-reads.Asked, next-token-reads.Learnt, second-token-reads.Asked, second-token-reads.Learnt, is-symbol-reads.Asked, is-symbol-reads.Learnt, is-at-reads.Asked, is-at-reads.Learnt, parse-bind-below t, parse-bind.Post, ident-node-reads.Asked, ident-node-reads.Learnt, is-lparen-reads.Asked, is-lparen-reads.Learnt, is-word-reads.Asked, is-word-reads.Learnt, parse-and-below t, parse-and.Post, parse-term-below t, parse-term.Post, refuse-at-reads.Asked, refuse-at-reads.Learnt)
-
-parse-compound-next-token-requires : (t : ℕ) → parse-compound-lts.Need-next-token-requires (parse-compound-calls t) (parse-compound-at t) parse-compound.Post
-parse-compound-next-token-requires t c κs = search needs
+    (second-token-reads.Asked, second-token-reads.Learnt, is-symbol-reads.Asked, is-symbol-reads.Learnt, is-at-reads.Asked, is-at-reads.Learnt, parse-bind-below t, parse-bind.Post, ident-node-of-reads.Asked, ident-node-of-reads.Learnt, is-lparen-reads.Asked, is-lparen-reads.Learnt, is-word-reads.Asked, is-word-reads.Learnt, parse-and-below t, parse-and.Post, parse-term-below t, parse-term.Post, refuse-at-reads.Asked, refuse-at-reads.Learnt)
 
 parse-compound-second-token-requires : (t : ℕ) → parse-compound-lts.Need-second-token-requires (parse-compound-calls t) (parse-compound-at t) parse-compound.Post
 parse-compound-second-token-requires t c κs = search near-ready
@@ -222,8 +219,8 @@ parse-compound-returns : (t : ℕ) → parse-compound-lts.Need-returns (parse-co
 unfolding compound
 parse-compound-returns t c = search (next-yes, next-no, second-yes, second-no, refusing)
 
-parse-compound-ident-node-requires : (t : ℕ) → parse-compound-lts.Need-ident-node-requires (parse-compound-calls t) (parse-compound-at t) parse-compound.Post
-parse-compound-ident-node-requires t c κs = search needs
+parse-compound-ident-node-of-requires : (t : ℕ) → parse-compound-lts.Need-ident-node-of-requires (parse-compound-calls t) (parse-compound-at t) parse-compound.Post
+parse-compound-ident-node-of-requires t c κs = (search needs, search needs)
 
 parse-compound-same-length-2 : (t : ℕ) → parse-compound-lts.Need-same-length-2 (parse-compound-calls t) (parse-compound-at t) parse-compound.Post
 parse-compound-same-length-2 t c = search needs
@@ -359,7 +356,7 @@ parse-pattern-sub-parse-compound : (t : ℕ) → parse-pattern-lts.Need-sub-pars
 parse-pattern-sub-parse-compound t c = search needs
 
 parse-pattern-parse-compound-requires : (t : ℕ) → parse-pattern-lts.Need-parse-compound-requires (parse-pattern-calls t) (parse-pattern-at t) parse-pattern.Post
-parse-pattern-parse-compound-requires t c κs = (omega arith, search needs)
+parse-pattern-parse-compound-requires t c κs = (omega arith, (search needs, search needs))
 
 parse-pattern-same-length-6 : (t : ℕ) → parse-pattern-lts.Need-same-length-6 (parse-pattern-calls t) (parse-pattern-at t) parse-pattern.Post
 parse-pattern-same-length-6 t c = search needs
@@ -462,14 +459,13 @@ pub +parse-and+parse-bind+parse-compound+parse-pattern+parse-patterns+parse-term
     (λ t. parse-compound-lts.spec (parse-compound-calls t)
     (parse-compound-at t)
     parse-compound.Post
-    (parse-compound-next-token-requires t)
     (parse-compound-second-token-requires t)
     (parse-compound-is-symbol-requires t)
     (parse-compound-is-at-requires t)
     (parse-compound-parse-bind-requires t)
     (parse-compound-same-length t)
     (parse-compound-returns t)
-    (parse-compound-ident-node-requires t)
+    (parse-compound-ident-node-of-requires t)
     (parse-compound-same-length-2 t)
     (parse-compound-returns-2 t)
     (parse-compound-is-lparen-requires t)

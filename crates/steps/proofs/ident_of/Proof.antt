@@ -1,7 +1,7 @@
-use Rattle.steps.proofs.StepLaws.{stays, ready-below, ident-read, ident-other}
+use Rattle.steps.proofs.StepLaws.{stays, ready-below, token-here, ident-read, ident-other}
 use borrow.Author.Needs.{needs}
-use Rattle.steps.proofs.parse_ident.Statement.{statement}
-use Rattle.steps.proofs.parse_ident.Tie as tie
+use Rattle.steps.proofs.ident_of.Statement.{statement}
+use Rattle.steps.proofs.ident_of.Tie as tie
 
 enum-known-p : tie.Need-enum-known-p
 enum-known-p c = search needs
@@ -11,9 +11,6 @@ enum-told c = search needs
 
 returns : tie.Need-returns
 returns c = search stays
-
-peek-requires : tie.Need-peek-requires
-peek-requires c κs = search needs
 
 is-symbol-requires : tie.Need-is-symbol-requires
 is-symbol-requires c κs = search needs
@@ -31,22 +28,21 @@ same-length : tie.Need-same-length
 same-length c = search needs
 
 returns-2 : tie.Need-returns-2
-returns-2 c = search ident-read
+returns-2 c = search (ident-read, token-here)
 
 unexpected-requires : tie.Need-unexpected-requires
 unexpected-requires c κs = search needs
 
 returns-3 : tie.Need-returns-3
-returns-3 c = search ident-other
+returns-3 c = search (ident-other, token-here)
 
-pub parse-ident-spec : {M : Type 1} → statement M
-parse-ident-spec =
+pub ident-of-spec : {M : Type 1} → statement M
+ident-of-spec =
     tie.close
     (tie.spec
     enum-known-p
     enum-told
     returns
-    peek-requires
     is-symbol-requires
     spelling-requires
     ident-refusal-requires
