@@ -3,14 +3,14 @@
 pub mod iflets;
 use steps::Parsed;
 use steps::close_at;
-use steps::const_node;
+use steps::const_node_of;
 use steps::expect_lparen;
 use steps::expect_rparen;
 use steps::expect_word;
 use steps::goes_on;
 use steps::ident_node_of;
 use steps::inside;
-use steps::leaf_at;
+use steps::leaf_of;
 use steps::next_token;
 use steps::parse_ident;
 use steps::put_leaf;
@@ -44,13 +44,13 @@ pub fn parse_expr(
         return parse_expr_inner_parens(tokens, text, end, out, p, depth - 1);
     }
     if t.is_const(text) {
-        return const_node(tokens, text, end, out, p, Head::EXPR_CONST);
+        return const_node_of(tokens, text, end, out, p, Head::EXPR_CONST, t);
     }
     if t.is_word(text, b"true") {
-        return leaf_at(tokens, end, out, p, Head::EXPR_BOOL, 1);
+        return leaf_of(tokens, end, out, p, Head::EXPR_BOOL, 1, t);
     }
     if t.is_word(text, b"false") {
-        return leaf_at(tokens, end, out, p, Head::EXPR_BOOL, 0);
+        return leaf_of(tokens, end, out, p, Head::EXPR_BOOL, 0, t);
     }
     if t.is_symbol() {
         return ident_node_of(tokens, text, end, out, p, Head::EXPR_VAR, t);

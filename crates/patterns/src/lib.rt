@@ -2,7 +2,7 @@
 // with one level of depth less.
 use steps::Parsed;
 use steps::close_at;
-use steps::const_node;
+use steps::const_node_of;
 use steps::expect_at;
 use steps::expect_lparen;
 use steps::expect_rparen;
@@ -10,7 +10,7 @@ use steps::expect_word;
 use steps::goes_on;
 use steps::ident_node_of;
 use steps::inside;
-use steps::leaf_at;
+use steps::leaf_of;
 use steps::next_token;
 use steps::parse_ident;
 use steps::put_leaf;
@@ -54,16 +54,16 @@ pub fn parse_pattern(
         return put_leaf(tokens, out, p, h);
     }
     if t.is_const(text) {
-        return const_node(tokens, text, end, out, p, Head::PATTERN_CONST);
+        return const_node_of(tokens, text, end, out, p, Head::PATTERN_CONST, t);
     }
     if t.is_word(text, b"_") {
-        return leaf_at(tokens, end, out, p, Head::PATTERN_WILDCARD, 0);
+        return leaf_of(tokens, end, out, p, Head::PATTERN_WILDCARD, 0, t);
     }
     if t.is_word(text, b"true") {
-        return leaf_at(tokens, end, out, p, Head::PATTERN_BOOL, 1);
+        return leaf_of(tokens, end, out, p, Head::PATTERN_BOOL, 1, t);
     }
     if t.is_word(text, b"false") {
-        return leaf_at(tokens, end, out, p, Head::PATTERN_BOOL, 0);
+        return leaf_of(tokens, end, out, p, Head::PATTERN_BOOL, 0, t);
     }
     parse_compound(tokens, text, end, out, p, depth - 1, t)
 }

@@ -361,23 +361,24 @@ pub fn put_leaf(tokens: &[u8], out: &mut [u8], p: Parsed, h: Head) -> Parsed
     )
 }
 
-// The same without words.
-pub fn leaf_at(
+// The same without words, by the next token t.
+pub fn leaf_of(
     tokens: &[u8],
     end: u32,
     out: &mut [u8],
     p: Parsed,
     kind: u8,
     flags: u8,
+    t: Token,
 ) -> Parsed
     requires { ⌜ Near p ⌝ }
+    requires { ⌜ t ≡ tokenFor (now tokens) end p ⌝ }
     ensures { λ r. ⌜ Leafed (head kind flags (tokenFor (now (tokens .entry)) end p .pos) 0 0) p (now (out .entry)) (now (out .exit)) r ⌝ }
 {
-    let pos = next_token(tokens, end, p).pos;
     let h = Head {
         kind,
         flags,
-        pos,
+        pos: t.pos,
         word1: 0,
         word2: 0,
     };
@@ -425,21 +426,30 @@ pub fn ident_node_of(
     close(out, p, h, q)
 }
 
-// A node over the name of a constant.
-pub fn const_node(
+// A node over the name of a constant, by the next token t.
+pub fn const_node_of(
     tokens: &[u8],
     text: &[u8],
     end: u32,
     out: &mut [u8],
     p: Parsed,
     kind: u8,
+    t: Token,
 ) -> Parsed
     requires { ⌜ Ready 3 (input (now tokens) (now text) end) p ⌝ }
+    requires { ⌜ t ≡ tokenFor (now tokens) end p ⌝ }
     ensures { λ r. ⌜ Chained (parent (input (now (tokens .entry)) (now (text .entry)) end) kind 0 (parseConst (input (now (tokens .entry)) (now (text .entry)) end))) p (now (out .entry)) (now (out .exit)) r ⌝ }
 {
     let children = inside(p);
     let q = parse_const(tokens, text, end, out, children);
-    close_at(tokens, end, out, p, kind, 0, q)
+    let h = Head {
+        kind,
+        flags: 0,
+        pos: t.pos,
+        word1: 0,
+        word2: 0,
+    };
+    close(out, p, h, q)
 }
 
 // An identifier, refused with `code` where it is none.

@@ -32,14 +32,14 @@ use Rattle.exprs.proofs.parse_letdefs.Reads as parse-letdefs
 use Rattle.exprs.proofs.parse_letdefs.Kinds as parse-letdefs-kinds
 use Rattle.exprs.proofs.+parse_expr+parse_expr_inner_parens+parse_exprs+parse_let+parse_letdef+parse_letdefs.Lts-parse_letdefs as parse-letdefs-lts
 use Rattle.steps.proofs.close_at.Reads as close-at-reads
-use Rattle.steps.proofs.const_node.Reads as const-node-reads
+use Rattle.steps.proofs.const_node_of.Reads as const-node-of-reads
 use Rattle.steps.proofs.expect_lparen.Reads as expect-lparen-reads
 use Rattle.steps.proofs.expect_rparen.Reads as expect-rparen-reads
 use Rattle.steps.proofs.expect_word.Reads as expect-word-reads
 use Rattle.steps.proofs.goes_on.Reads as goes-on-reads
 use Rattle.steps.proofs.ident_node_of.Reads as ident-node-of-reads
 use Rattle.steps.proofs.inside.Reads as inside-reads
-use Rattle.steps.proofs.leaf_at.Reads as leaf-at-reads
+use Rattle.steps.proofs.leaf_of.Reads as leaf-of-reads
 use Rattle.steps.proofs.next_token.Reads as next-token-reads
 use Rattle.steps.proofs.parse_ident.Reads as parse-ident-reads
 use Rattle.steps.proofs.put_leaf.Reads as put-leaf-reads
@@ -136,7 +136,7 @@ parse-letdefs-below t =
 
 abbrev parse-expr-calls : ℕ → parse-expr-lts.Claims
 parse-expr-calls t =
-    (refuse-at-reads.Asked, refuse-at-reads.Learnt, next-token-reads.Asked, next-token-reads.Learnt, is-lparen-reads.Asked, is-lparen-reads.Learnt, parse-expr-inner-parens-below t, parse-expr-inner-parens.Post, is-const-reads.Asked, is-const-reads.Learnt, const-node-reads.Asked, const-node-reads.Learnt, is-word-reads.Asked, is-word-reads.Learnt, leaf-at-reads.Asked, leaf-at-reads.Learnt, is-symbol-reads.Asked, is-symbol-reads.Learnt, ident-node-of-reads.Asked, ident-node-of-reads.Learnt, is-int-reads.Asked, is-int-reads.Learnt, put-leaf-reads.Asked, put-leaf-reads.Learnt)
+    (refuse-at-reads.Asked, refuse-at-reads.Learnt, next-token-reads.Asked, next-token-reads.Learnt, is-lparen-reads.Asked, is-lparen-reads.Learnt, parse-expr-inner-parens-below t, parse-expr-inner-parens.Post, is-const-reads.Asked, is-const-reads.Learnt, const-node-of-reads.Asked, const-node-of-reads.Learnt, is-word-reads.Asked, is-word-reads.Learnt, leaf-of-reads.Asked, leaf-of-reads.Learnt, is-symbol-reads.Asked, is-symbol-reads.Learnt, ident-node-of-reads.Asked, ident-node-of-reads.Learnt, is-int-reads.Asked, is-int-reads.Learnt, put-leaf-reads.Asked, put-leaf-reads.Learnt)
 
 abbrev parse-expr-inner-parens-calls : ℕ → parse-expr-inner-parens-lts.Claims
 parse-expr-inner-parens-calls t =
@@ -186,15 +186,15 @@ parse-expr-returns-2 t c = not-too-deep _ _ _ _ _ _ (c .before .before .before .
 parse-expr-is-const-requires : (t : ℕ) → parse-expr-lts.Need-is-const-requires (parse-expr-calls t) (parse-expr-at t) parse-expr.Post
 parse-expr-is-const-requires t c κs = search needs
 
-parse-expr-const-node-requires : (t : ℕ) → parse-expr-lts.Need-const-node-requires (parse-expr-calls t) (parse-expr-at t) parse-expr.Post
-parse-expr-const-node-requires t c κs = search needs
+parse-expr-const-node-of-requires : (t : ℕ) → parse-expr-lts.Need-const-node-of-requires (parse-expr-calls t) (parse-expr-at t) parse-expr.Post
+parse-expr-const-node-of-requires t c κs = (search needs, search needs)
 
 parse-expr-same-length-2 : (t : ℕ) → parse-expr-lts.Need-same-length-2 (parse-expr-calls t) (parse-expr-at t) parse-expr.Post
 parse-expr-same-length-2 t c = search needs
 
 parse-expr-returns-3 : (t : ℕ) → parse-expr-lts.Need-returns-3 (parse-expr-calls t) (parse-expr-at t) parse-expr.Post
 unfolding exprIn
-parse-expr-returns-3 t c = not-too-deep _ _ _ _ _ _ (c .before .before .before .before .before .before .before .before .before .if1 .left) (next-no _ _ _ _ _ _ _ _ _ _ _ _ (c .before .before .before .before .before .before .before .before .next-token .ensures) (c .before .before .before .before .before .before .before .is-lparen .ensures) (c .before .before .before .before .before .before .if2 .left) (next-yes _ _ _ _ _ _ _ _ _ _ _ _ (c .before .before .before .before .before .before .before .before .next-token .ensures) (c .before .before .before .before .before .is-const .ensures) (c .before .before .before .before .if3 .taken) (c .before .before .const-node .ensures)))
+parse-expr-returns-3 t c = not-too-deep _ _ _ _ _ _ (c .before .before .before .before .before .before .before .before .before .if1 .left) (next-no _ _ _ _ _ _ _ _ _ _ _ _ (c .before .before .before .before .before .before .before .before .next-token .ensures) (c .before .before .before .before .before .before .before .is-lparen .ensures) (c .before .before .before .before .before .before .if2 .left) (next-yes _ _ _ _ _ _ _ _ _ _ _ _ (c .before .before .before .before .before .before .before .before .next-token .ensures) (c .before .before .before .before .before .is-const .ensures) (c .before .before .before .before .if3 .taken) (c .before .before .const-node-of .ensures)))
 
 parse-expr-slice-aggregate-is-word : (t : ℕ) → parse-expr-lts.Need-slice-aggregate-is-word (parse-expr-calls t) (parse-expr-at t) parse-expr.Post
 parse-expr-slice-aggregate-is-word t c = search needs
@@ -202,15 +202,15 @@ parse-expr-slice-aggregate-is-word t c = search needs
 parse-expr-is-word-requires : (t : ℕ) → parse-expr-lts.Need-is-word-requires (parse-expr-calls t) (parse-expr-at t) parse-expr.Post
 parse-expr-is-word-requires t c κs = search needs
 
-parse-expr-leaf-at-requires : (t : ℕ) → parse-expr-lts.Need-leaf-at-requires (parse-expr-calls t) (parse-expr-at t) parse-expr.Post
-parse-expr-leaf-at-requires t c κs = search near-ready
+parse-expr-leaf-of-requires : (t : ℕ) → parse-expr-lts.Need-leaf-of-requires (parse-expr-calls t) (parse-expr-at t) parse-expr.Post
+parse-expr-leaf-of-requires t c κs = (search near-ready, search needs)
 
 parse-expr-same-length-3 : (t : ℕ) → parse-expr-lts.Need-same-length-3 (parse-expr-calls t) (parse-expr-at t) parse-expr.Post
 parse-expr-same-length-3 t c = search needs
 
 parse-expr-returns-4 : (t : ℕ) → parse-expr-lts.Need-returns-4 (parse-expr-calls t) (parse-expr-at t) parse-expr.Post
 unfolding exprIn
-parse-expr-returns-4 t c = not-too-deep _ _ _ _ _ _ (c .before .before .before .before .before .before .before .before .before .before .before .before .if1 .left) (next-no _ _ _ _ _ _ _ _ _ _ _ _ (c .before .before .before .before .before .before .before .before .before .before .before .next-token .ensures) (c .before .before .before .before .before .before .before .before .before .before .is-lparen .ensures) (c .before .before .before .before .before .before .before .before .before .if2 .left) (next-no _ _ _ _ _ _ _ _ _ _ _ _ (c .before .before .before .before .before .before .before .before .before .before .before .next-token .ensures) (c .before .before .before .before .before .before .before .before .is-const .ensures) (c .before .before .before .before .before .before .before .if3 .left) (next-yes _ _ _ _ _ _ _ _ _ _ _ _ (c .before .before .before .before .before .before .before .before .before .before .before .next-token .ensures) (c .before .before .before .before .before .is-word .ensures) (c .before .before .before .before .if4 .taken) (leaf-here _ _ _ _ _ _ _ _ (c .before .before .leaf-at .ensures)))))
+parse-expr-returns-4 t c = not-too-deep _ _ _ _ _ _ (c .before .before .before .before .before .before .before .before .before .before .before .before .if1 .left) (next-no _ _ _ _ _ _ _ _ _ _ _ _ (c .before .before .before .before .before .before .before .before .before .before .before .next-token .ensures) (c .before .before .before .before .before .before .before .before .before .before .is-lparen .ensures) (c .before .before .before .before .before .before .before .before .before .if2 .left) (next-no _ _ _ _ _ _ _ _ _ _ _ _ (c .before .before .before .before .before .before .before .before .before .before .before .next-token .ensures) (c .before .before .before .before .before .before .before .before .is-const .ensures) (c .before .before .before .before .before .before .before .if3 .left) (next-yes _ _ _ _ _ _ _ _ _ _ _ _ (c .before .before .before .before .before .before .before .before .before .before .before .next-token .ensures) (c .before .before .before .before .before .is-word .ensures) (c .before .before .before .before .if4 .taken) (leaf-here _ _ _ _ _ _ _ _ (c .before .before .leaf-of .ensures)))))
 
 parse-expr-slice-aggregate-is-word-2 : (t : ℕ) → parse-expr-lts.Need-slice-aggregate-is-word-2 (parse-expr-calls t) (parse-expr-at t) parse-expr.Post
 parse-expr-slice-aggregate-is-word-2 t c = search needs
@@ -218,15 +218,15 @@ parse-expr-slice-aggregate-is-word-2 t c = search needs
 parse-expr-is-word-requires-2 : (t : ℕ) → parse-expr-lts.Need-is-word-requires-2 (parse-expr-calls t) (parse-expr-at t) parse-expr.Post
 parse-expr-is-word-requires-2 t c κs = search needs
 
-parse-expr-leaf-at-requires-2 : (t : ℕ) → parse-expr-lts.Need-leaf-at-requires-2 (parse-expr-calls t) (parse-expr-at t) parse-expr.Post
-parse-expr-leaf-at-requires-2 t c κs = search near-ready
+parse-expr-leaf-of-requires-2 : (t : ℕ) → parse-expr-lts.Need-leaf-of-requires-2 (parse-expr-calls t) (parse-expr-at t) parse-expr.Post
+parse-expr-leaf-of-requires-2 t c κs = (search near-ready, search needs)
 
 parse-expr-same-length-4 : (t : ℕ) → parse-expr-lts.Need-same-length-4 (parse-expr-calls t) (parse-expr-at t) parse-expr.Post
 parse-expr-same-length-4 t c = search needs
 
 parse-expr-returns-5 : (t : ℕ) → parse-expr-lts.Need-returns-5 (parse-expr-calls t) (parse-expr-at t) parse-expr.Post
 unfolding exprIn
-parse-expr-returns-5 t c = not-too-deep _ _ _ _ _ _ (c .before .before .before .before .before .before .before .before .before .before .before .before .before .before .before .if1 .left) (next-no _ _ _ _ _ _ _ _ _ _ _ _ (c .before .before .before .before .before .before .before .before .before .before .before .before .before .before .next-token .ensures) (c .before .before .before .before .before .before .before .before .before .before .before .before .before .is-lparen .ensures) (c .before .before .before .before .before .before .before .before .before .before .before .before .if2 .left) (next-no _ _ _ _ _ _ _ _ _ _ _ _ (c .before .before .before .before .before .before .before .before .before .before .before .before .before .before .next-token .ensures) (c .before .before .before .before .before .before .before .before .before .before .before .is-const .ensures) (c .before .before .before .before .before .before .before .before .before .before .if3 .left) (next-no _ _ _ _ _ _ _ _ _ _ _ _ (c .before .before .before .before .before .before .before .before .before .before .before .before .before .before .next-token .ensures) (c .before .before .before .before .before .before .before .before .is-word .ensures) (c .before .before .before .before .before .before .before .if4 .left) (next-yes _ _ _ _ _ _ _ _ _ _ _ _ (c .before .before .before .before .before .before .before .before .before .before .before .before .before .before .next-token .ensures) (c .before .before .before .before .before .is-word2 .ensures) (c .before .before .before .before .if5 .taken) (leaf-here _ _ _ _ _ _ _ _ (c .before .before .leaf-at2 .ensures))))))
+parse-expr-returns-5 t c = not-too-deep _ _ _ _ _ _ (c .before .before .before .before .before .before .before .before .before .before .before .before .before .before .before .if1 .left) (next-no _ _ _ _ _ _ _ _ _ _ _ _ (c .before .before .before .before .before .before .before .before .before .before .before .before .before .before .next-token .ensures) (c .before .before .before .before .before .before .before .before .before .before .before .before .before .is-lparen .ensures) (c .before .before .before .before .before .before .before .before .before .before .before .before .if2 .left) (next-no _ _ _ _ _ _ _ _ _ _ _ _ (c .before .before .before .before .before .before .before .before .before .before .before .before .before .before .next-token .ensures) (c .before .before .before .before .before .before .before .before .before .before .before .is-const .ensures) (c .before .before .before .before .before .before .before .before .before .before .if3 .left) (next-no _ _ _ _ _ _ _ _ _ _ _ _ (c .before .before .before .before .before .before .before .before .before .before .before .before .before .before .next-token .ensures) (c .before .before .before .before .before .before .before .before .is-word .ensures) (c .before .before .before .before .before .before .before .if4 .left) (next-yes _ _ _ _ _ _ _ _ _ _ _ _ (c .before .before .before .before .before .before .before .before .before .before .before .before .before .before .next-token .ensures) (c .before .before .before .before .before .is-word2 .ensures) (c .before .before .before .before .if5 .taken) (leaf-here _ _ _ _ _ _ _ _ (c .before .before .leaf-of2 .ensures))))))
 
 parse-expr-is-symbol-requires : (t : ℕ) → parse-expr-lts.Need-is-symbol-requires (parse-expr-calls t) (parse-expr-at t) parse-expr.Post
 parse-expr-is-symbol-requires t c κs = search needs
@@ -440,17 +440,17 @@ pub +parse-expr+parse-expr-inner-parens+parse-exprs+parse-let+parse-letdef+parse
     (parse-expr-same-length t)
     (parse-expr-returns-2 t)
     (parse-expr-is-const-requires t)
-    (parse-expr-const-node-requires t)
+    (parse-expr-const-node-of-requires t)
     (parse-expr-same-length-2 t)
     (parse-expr-returns-3 t)
     (parse-expr-slice-aggregate-is-word t)
     (parse-expr-is-word-requires t)
-    (parse-expr-leaf-at-requires t)
+    (parse-expr-leaf-of-requires t)
     (parse-expr-same-length-3 t)
     (parse-expr-returns-4 t)
     (parse-expr-slice-aggregate-is-word-2 t)
     (parse-expr-is-word-requires-2 t)
-    (parse-expr-leaf-at-requires-2 t)
+    (parse-expr-leaf-of-requires-2 t)
     (parse-expr-same-length-4 t)
     (parse-expr-returns-5 t)
     (parse-expr-is-symbol-requires t)

@@ -32,7 +32,7 @@ use Rattle.patterns.proofs.parse_term.Reads as parse-term
 use Rattle.patterns.proofs.parse_term.Kinds as parse-term-kinds
 use Rattle.patterns.proofs.+parse_and+parse_bind+parse_compound+parse_pattern+parse_patterns+parse_term.Lts-parse_term as parse-term-lts
 use Rattle.steps.proofs.close_at.Reads as close-at-reads
-use Rattle.steps.proofs.const_node.Reads as const-node-reads
+use Rattle.steps.proofs.const_node_of.Reads as const-node-of-reads
 use Rattle.steps.proofs.expect_at.Reads as expect-at-reads
 use Rattle.steps.proofs.expect_lparen.Reads as expect-lparen-reads
 use Rattle.steps.proofs.expect_rparen.Reads as expect-rparen-reads
@@ -40,7 +40,7 @@ use Rattle.steps.proofs.expect_word.Reads as expect-word-reads
 use Rattle.steps.proofs.goes_on.Reads as goes-on-reads
 use Rattle.steps.proofs.ident_node_of.Reads as ident-node-of-reads
 use Rattle.steps.proofs.inside.Reads as inside-reads
-use Rattle.steps.proofs.leaf_at.Reads as leaf-at-reads
+use Rattle.steps.proofs.leaf_of.Reads as leaf-of-reads
 use Rattle.steps.proofs.next_token.Reads as next-token-reads
 use Rattle.steps.proofs.parse_ident.Reads as parse-ident-reads
 use Rattle.steps.proofs.put_leaf.Reads as put-leaf-reads
@@ -267,7 +267,7 @@ parse-compound-returns-5 t c = search (next-yes, next-no, second-yes, second-no,
 
 abbrev parse-pattern-calls : ℕ → parse-pattern-lts.Claims
 parse-pattern-calls t =
-    (refuse-at-reads.Asked, refuse-at-reads.Learnt, next-token-reads.Asked, next-token-reads.Learnt, is-int-reads.Asked, is-int-reads.Learnt, put-leaf-reads.Asked, put-leaf-reads.Learnt, is-const-reads.Asked, is-const-reads.Learnt, const-node-reads.Asked, const-node-reads.Learnt, is-word-reads.Asked, is-word-reads.Learnt, leaf-at-reads.Asked, leaf-at-reads.Learnt, parse-compound-below t, parse-compound.Post)
+    (refuse-at-reads.Asked, refuse-at-reads.Learnt, next-token-reads.Asked, next-token-reads.Learnt, is-int-reads.Asked, is-int-reads.Learnt, put-leaf-reads.Asked, put-leaf-reads.Learnt, is-const-reads.Asked, is-const-reads.Learnt, const-node-of-reads.Asked, const-node-of-reads.Learnt, is-word-reads.Asked, is-word-reads.Learnt, leaf-of-reads.Asked, leaf-of-reads.Learnt, parse-compound-below t, parse-compound.Post)
 
 parse-pattern-refuse-at-requires : (t : ℕ) → parse-pattern-lts.Need-refuse-at-requires (parse-pattern-calls t) (parse-pattern-at t) parse-pattern.Post
 parse-pattern-refuse-at-requires t c κs = search needs
@@ -294,8 +294,8 @@ parse-pattern-returns-2 t c = search (not-too-deep, next-yes, next-no, leaf-here
 parse-pattern-is-const-requires : (t : ℕ) → parse-pattern-lts.Need-is-const-requires (parse-pattern-calls t) (parse-pattern-at t) parse-pattern.Post
 parse-pattern-is-const-requires t c κs = search needs
 
-parse-pattern-const-node-requires : (t : ℕ) → parse-pattern-lts.Need-const-node-requires (parse-pattern-calls t) (parse-pattern-at t) parse-pattern.Post
-parse-pattern-const-node-requires t c κs = search needs
+parse-pattern-const-node-of-requires : (t : ℕ) → parse-pattern-lts.Need-const-node-of-requires (parse-pattern-calls t) (parse-pattern-at t) parse-pattern.Post
+parse-pattern-const-node-of-requires t c κs = (search needs, search needs)
 
 parse-pattern-same-length-2 : (t : ℕ) → parse-pattern-lts.Need-same-length-2 (parse-pattern-calls t) (parse-pattern-at t) parse-pattern.Post
 parse-pattern-same-length-2 t c = search needs
@@ -310,8 +310,8 @@ parse-pattern-slice-aggregate-is-word t c = search needs
 parse-pattern-is-word-requires : (t : ℕ) → parse-pattern-lts.Need-is-word-requires (parse-pattern-calls t) (parse-pattern-at t) parse-pattern.Post
 parse-pattern-is-word-requires t c κs = search needs
 
-parse-pattern-leaf-at-requires : (t : ℕ) → parse-pattern-lts.Need-leaf-at-requires (parse-pattern-calls t) (parse-pattern-at t) parse-pattern.Post
-parse-pattern-leaf-at-requires t c κs = search near-ready
+parse-pattern-leaf-of-requires : (t : ℕ) → parse-pattern-lts.Need-leaf-of-requires (parse-pattern-calls t) (parse-pattern-at t) parse-pattern.Post
+parse-pattern-leaf-of-requires t c κs = (search near-ready, search needs)
 
 parse-pattern-same-length-3 : (t : ℕ) → parse-pattern-lts.Need-same-length-3 (parse-pattern-calls t) (parse-pattern-at t) parse-pattern.Post
 parse-pattern-same-length-3 t c = search needs
@@ -326,15 +326,15 @@ parse-pattern-slice-aggregate-is-word-2 t c = search needs
 parse-pattern-is-word-requires-2 : (t : ℕ) → parse-pattern-lts.Need-is-word-requires-2 (parse-pattern-calls t) (parse-pattern-at t) parse-pattern.Post
 parse-pattern-is-word-requires-2 t c κs = search needs
 
-parse-pattern-leaf-at-requires-2 : (t : ℕ) → parse-pattern-lts.Need-leaf-at-requires-2 (parse-pattern-calls t) (parse-pattern-at t) parse-pattern.Post
-parse-pattern-leaf-at-requires-2 t c κs = search near-ready
+parse-pattern-leaf-of-requires-2 : (t : ℕ) → parse-pattern-lts.Need-leaf-of-requires-2 (parse-pattern-calls t) (parse-pattern-at t) parse-pattern.Post
+parse-pattern-leaf-of-requires-2 t c κs = (search near-ready, search needs)
 
 parse-pattern-same-length-4 : (t : ℕ) → parse-pattern-lts.Need-same-length-4 (parse-pattern-calls t) (parse-pattern-at t) parse-pattern.Post
 parse-pattern-same-length-4 t c = search needs
 
 parse-pattern-returns-5 : (t : ℕ) → parse-pattern-lts.Need-returns-5 (parse-pattern-calls t) (parse-pattern-at t) parse-pattern.Post
 unfolding patternIn
-parse-pattern-returns-5 t c = not-too-deep _ _ _ _ _ _ (c .before .before .before .before .before .before .before .before .before .before .before .before .before .before .before .if1 .left) (next-no _ _ _ _ _ _ _ _ _ _ _ _ (c .before .before .before .before .before .before .before .before .before .before .before .before .before .before .next-token .ensures) (c .before .before .before .before .before .before .before .before .before .before .before .before .before .is-int .ensures) (c .before .before .before .before .before .before .before .before .before .before .before .before .if2 .left) (next-no _ _ _ _ _ _ _ _ _ _ _ _ (c .before .before .before .before .before .before .before .before .before .before .before .before .before .before .next-token .ensures) (c .before .before .before .before .before .before .before .before .before .before .before .is-const .ensures) (c .before .before .before .before .before .before .before .before .before .before .if3 .left) (next-no _ _ _ _ _ _ _ _ _ _ _ _ (c .before .before .before .before .before .before .before .before .before .before .before .before .before .before .next-token .ensures) (c .before .before .before .before .before .before .before .before .is-word .ensures) (c .before .before .before .before .before .before .before .if4 .left) (next-yes _ _ _ _ _ _ _ _ _ _ _ _ (c .before .before .before .before .before .before .before .before .before .before .before .before .before .before .next-token .ensures) (c .before .before .before .before .before .is-word2 .ensures) (c .before .before .before .before .if5 .taken) (leaf-here _ _ _ _ _ _ _ _ (c .before .before .leaf-at2 .ensures))))))
+parse-pattern-returns-5 t c = not-too-deep _ _ _ _ _ _ (c .before .before .before .before .before .before .before .before .before .before .before .before .before .before .before .if1 .left) (next-no _ _ _ _ _ _ _ _ _ _ _ _ (c .before .before .before .before .before .before .before .before .before .before .before .before .before .before .next-token .ensures) (c .before .before .before .before .before .before .before .before .before .before .before .before .before .is-int .ensures) (c .before .before .before .before .before .before .before .before .before .before .before .before .if2 .left) (next-no _ _ _ _ _ _ _ _ _ _ _ _ (c .before .before .before .before .before .before .before .before .before .before .before .before .before .before .next-token .ensures) (c .before .before .before .before .before .before .before .before .before .before .before .is-const .ensures) (c .before .before .before .before .before .before .before .before .before .before .if3 .left) (next-no _ _ _ _ _ _ _ _ _ _ _ _ (c .before .before .before .before .before .before .before .before .before .before .before .before .before .before .next-token .ensures) (c .before .before .before .before .before .before .before .before .is-word .ensures) (c .before .before .before .before .before .before .before .if4 .left) (next-yes _ _ _ _ _ _ _ _ _ _ _ _ (c .before .before .before .before .before .before .before .before .before .before .before .before .before .before .next-token .ensures) (c .before .before .before .before .before .is-word2 .ensures) (c .before .before .before .before .if5 .taken) (leaf-here _ _ _ _ _ _ _ _ (c .before .before .leaf-of2 .ensures))))))
 
 parse-pattern-slice-aggregate-is-word-3 : (t : ℕ) → parse-pattern-lts.Need-slice-aggregate-is-word-3 (parse-pattern-calls t) (parse-pattern-at t) parse-pattern.Post
 parse-pattern-slice-aggregate-is-word-3 t c = search needs
@@ -342,15 +342,15 @@ parse-pattern-slice-aggregate-is-word-3 t c = search needs
 parse-pattern-is-word-requires-3 : (t : ℕ) → parse-pattern-lts.Need-is-word-requires-3 (parse-pattern-calls t) (parse-pattern-at t) parse-pattern.Post
 parse-pattern-is-word-requires-3 t c κs = search needs
 
-parse-pattern-leaf-at-requires-3 : (t : ℕ) → parse-pattern-lts.Need-leaf-at-requires-3 (parse-pattern-calls t) (parse-pattern-at t) parse-pattern.Post
-parse-pattern-leaf-at-requires-3 t c κs = search near-ready
+parse-pattern-leaf-of-requires-3 : (t : ℕ) → parse-pattern-lts.Need-leaf-of-requires-3 (parse-pattern-calls t) (parse-pattern-at t) parse-pattern.Post
+parse-pattern-leaf-of-requires-3 t c κs = (search near-ready, search needs)
 
 parse-pattern-same-length-5 : (t : ℕ) → parse-pattern-lts.Need-same-length-5 (parse-pattern-calls t) (parse-pattern-at t) parse-pattern.Post
 parse-pattern-same-length-5 t c = search needs
 
 parse-pattern-returns-6 : (t : ℕ) → parse-pattern-lts.Need-returns-6 (parse-pattern-calls t) (parse-pattern-at t) parse-pattern.Post
 unfolding patternIn
-parse-pattern-returns-6 t c = not-too-deep _ _ _ _ _ _ (c .before .before .before .before .before .before .before .before .before .before .before .before .before .before .before .before .before .before .if1 .left) (next-no _ _ _ _ _ _ _ _ _ _ _ _ (c .before .before .before .before .before .before .before .before .before .before .before .before .before .before .before .before .before .next-token .ensures) (c .before .before .before .before .before .before .before .before .before .before .before .before .before .before .before .before .is-int .ensures) (c .before .before .before .before .before .before .before .before .before .before .before .before .before .before .before .if2 .left) (next-no _ _ _ _ _ _ _ _ _ _ _ _ (c .before .before .before .before .before .before .before .before .before .before .before .before .before .before .before .before .before .next-token .ensures) (c .before .before .before .before .before .before .before .before .before .before .before .before .before .before .is-const .ensures) (c .before .before .before .before .before .before .before .before .before .before .before .before .before .if3 .left) (next-no _ _ _ _ _ _ _ _ _ _ _ _ (c .before .before .before .before .before .before .before .before .before .before .before .before .before .before .before .before .before .next-token .ensures) (c .before .before .before .before .before .before .before .before .before .before .before .is-word .ensures) (c .before .before .before .before .before .before .before .before .before .before .if4 .left) (next-no _ _ _ _ _ _ _ _ _ _ _ _ (c .before .before .before .before .before .before .before .before .before .before .before .before .before .before .before .before .before .next-token .ensures) (c .before .before .before .before .before .before .before .before .is-word2 .ensures) (c .before .before .before .before .before .before .before .if5 .left) (next-yes _ _ _ _ _ _ _ _ _ _ _ _ (c .before .before .before .before .before .before .before .before .before .before .before .before .before .before .before .before .before .next-token .ensures) (c .before .before .before .before .before .is-word3 .ensures) (c .before .before .before .before .if6 .taken) (leaf-here _ _ _ _ _ _ _ _ (c .before .before .leaf-at3 .ensures)))))))
+parse-pattern-returns-6 t c = not-too-deep _ _ _ _ _ _ (c .before .before .before .before .before .before .before .before .before .before .before .before .before .before .before .before .before .before .if1 .left) (next-no _ _ _ _ _ _ _ _ _ _ _ _ (c .before .before .before .before .before .before .before .before .before .before .before .before .before .before .before .before .before .next-token .ensures) (c .before .before .before .before .before .before .before .before .before .before .before .before .before .before .before .before .is-int .ensures) (c .before .before .before .before .before .before .before .before .before .before .before .before .before .before .before .if2 .left) (next-no _ _ _ _ _ _ _ _ _ _ _ _ (c .before .before .before .before .before .before .before .before .before .before .before .before .before .before .before .before .before .next-token .ensures) (c .before .before .before .before .before .before .before .before .before .before .before .before .before .before .is-const .ensures) (c .before .before .before .before .before .before .before .before .before .before .before .before .before .if3 .left) (next-no _ _ _ _ _ _ _ _ _ _ _ _ (c .before .before .before .before .before .before .before .before .before .before .before .before .before .before .before .before .before .next-token .ensures) (c .before .before .before .before .before .before .before .before .before .before .before .is-word .ensures) (c .before .before .before .before .before .before .before .before .before .before .if4 .left) (next-no _ _ _ _ _ _ _ _ _ _ _ _ (c .before .before .before .before .before .before .before .before .before .before .before .before .before .before .before .before .before .next-token .ensures) (c .before .before .before .before .before .before .before .before .is-word2 .ensures) (c .before .before .before .before .before .before .before .if5 .left) (next-yes _ _ _ _ _ _ _ _ _ _ _ _ (c .before .before .before .before .before .before .before .before .before .before .before .before .before .before .before .before .before .next-token .ensures) (c .before .before .before .before .before .is-word3 .ensures) (c .before .before .before .before .if6 .taken) (leaf-here _ _ _ _ _ _ _ _ (c .before .before .leaf-of3 .ensures)))))))
 
 parse-pattern-sub-parse-compound : (t : ℕ) → parse-pattern-lts.Need-sub-parse-compound (parse-pattern-calls t) (parse-pattern-at t) parse-pattern.Post
 parse-pattern-sub-parse-compound t c = search needs
@@ -490,22 +490,22 @@ pub +parse-and+parse-bind+parse-compound+parse-pattern+parse-patterns+parse-term
     (parse-pattern-same-length t)
     (parse-pattern-returns-2 t)
     (parse-pattern-is-const-requires t)
-    (parse-pattern-const-node-requires t)
+    (parse-pattern-const-node-of-requires t)
     (parse-pattern-same-length-2 t)
     (parse-pattern-returns-3 t)
     (parse-pattern-slice-aggregate-is-word t)
     (parse-pattern-is-word-requires t)
-    (parse-pattern-leaf-at-requires t)
+    (parse-pattern-leaf-of-requires t)
     (parse-pattern-same-length-3 t)
     (parse-pattern-returns-4 t)
     (parse-pattern-slice-aggregate-is-word-2 t)
     (parse-pattern-is-word-requires-2 t)
-    (parse-pattern-leaf-at-requires-2 t)
+    (parse-pattern-leaf-of-requires-2 t)
     (parse-pattern-same-length-4 t)
     (parse-pattern-returns-5 t)
     (parse-pattern-slice-aggregate-is-word-3 t)
     (parse-pattern-is-word-requires-3 t)
-    (parse-pattern-leaf-at-requires-3 t)
+    (parse-pattern-leaf-of-requires-3 t)
     (parse-pattern-same-length-5 t)
     (parse-pattern-returns-6 t)
     (parse-pattern-sub-parse-compound t)
