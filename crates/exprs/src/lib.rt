@@ -3,8 +3,10 @@
 pub mod iflets;
 use steps::Parsed;
 use steps::close_at;
+use steps::close_of;
 use steps::const_node_of;
 use steps::expect_lparen;
+use steps::expect_lparen_of;
 use steps::expect_rparen;
 use steps::expect_word;
 use steps::goes_on;
@@ -16,12 +18,13 @@ use steps::parse_ident;
 use steps::put_leaf;
 use steps::refuse_at;
 use steps::second_token;
+use tokens::Token;
 use trees::Head;
 ghost use mathlib.Core.Path.{_≡_};
 ghost use Prim.Native.Nat.{ℕ, _+_, _-_, _/_, _≤_, _<_};
 ghost use Rattle.tokens.specs.Input.{Input, input};
 ghost use Rattle.steps.specs.Outcome.{row};
-ghost use Rattle.steps.specs.Met.{Ready, Chained};
+ghost use Rattle.steps.specs.Met.{Ready, Chained, tokenFor};
 ghost use Rattle.exprs.specs.Expr.{parseLetdef, letInside, parseExprInnerParens, parseExpr};
 
 // The expression at p, of at most this depth.
@@ -41,7 +44,7 @@ pub fn parse_expr(
     }
     let t = next_token(tokens, end, p);
     if t.is_lparen() {
-        return parse_expr_inner_parens(tokens, text, end, out, p, depth - 1);
+        return parse_expr_inner_parens(tokens, text, end, out, p, depth - 1, t);
     }
     if t.is_const(text) {
         return const_node_of(tokens, text, end, out, p, Head::EXPR_CONST, t);
@@ -68,7 +71,7 @@ pub fn parse_expr(
     refuse_at(tokens, end, p, 26)
 }
 
-// `(let ..)` or `(term ..)`, the `(` standing at p; the expressions inside are of at most this depth.
+// `(let ..)` or `(term ..)`, the `(` standing at p as t; the expressions inside are of at most this depth.
 fn parse_expr_inner_parens(
     tokens: &[u8],
     text: &[u8],
@@ -76,20 +79,22 @@ fn parse_expr_inner_parens(
     out: &mut [u8],
     p: Parsed,
     depth: usize,
+    t: Token,
 ) -> Parsed
     requires { ⌜ Ready 3 (input (now tokens) (now text) end) p ⌝ }
+    requires { ⌜ t ≡ tokenFor (now tokens) end p ⌝ }
     ensures { λ r. ⌜ Chained (parseExprInnerParens (input (now (tokens .entry)) (now (text .entry)) end) (parseExpr (input (now (tokens .entry)) (now (text .entry)) end) depth)) p (now (out .entry)) (now (out .exit)) r ⌝ }
 {
     let u = second_token(tokens, end, p);
-    let open = expect_lparen(tokens, end, inside(p));
+    let open = expect_lparen_of(tokens, end, inside(p), t);
     if u.is_word(text, b"let") {
         let q = parse_let(tokens, text, end, out, open, depth);
-        return close_at(tokens, end, out, p, Head::EXPR_LET, 0, q);
+        return close_of(tokens, end, out, p, Head::EXPR_LET, 0, q, t);
     }
     let name = parse_ident(tokens, text, end, out, open);
     let list = parse_exprs(tokens, text, end, out, name, depth);
     let q = expect_rparen(tokens, end, list);
-    close_at(tokens, end, out, p, Head::EXPR_TERM, 0, q)
+    close_of(tokens, end, out, p, Head::EXPR_TERM, 0, q, t)
 }
 
 // The inside of a let: `let (definitions) body)`.

@@ -1,10 +1,10 @@
 // parse_pattern of the Rust: a pattern's records from its tokens. The functions that read a pattern's parts call it again,
 // with one level of depth less.
 use steps::Parsed;
-use steps::close_at;
+use steps::close_of;
 use steps::const_node_of;
 use steps::expect_at;
-use steps::expect_lparen;
+use steps::expect_lparen_of;
 use steps::expect_rparen;
 use steps::expect_word;
 use steps::goes_on;
@@ -85,20 +85,20 @@ fn parse_compound(
     let u = second_token(tokens, end, p);
     if t.is_symbol() {
         if u.is_at() {
-            return parse_bind(tokens, text, end, out, p, depth);
+            return parse_bind(tokens, text, end, out, p, depth, t);
         }
         return ident_node_of(tokens, text, end, out, p, Head::PATTERN_VAR, t);
     }
     if t.is_lparen() {
         if u.is_word(text, b"and") {
-            return parse_and(tokens, text, end, out, p, depth);
+            return parse_and(tokens, text, end, out, p, depth, t);
         }
-        return parse_term(tokens, text, end, out, p, depth);
+        return parse_term(tokens, text, end, out, p, depth, t);
     }
     refuse_at(tokens, end, p, 25)
 }
 
-// A name, `@` and the pattern that it is bound over.
+// A name, `@` and the pattern that it is bound over; here and below t is the next token.
 fn parse_bind(
     tokens: &[u8],
     text: &[u8],
@@ -106,14 +106,16 @@ fn parse_bind(
     out: &mut [u8],
     p: Parsed,
     depth: usize,
+    t: Token,
 ) -> Parsed
     requires { ⌜ Ready 3 (input (now tokens) (now text) end) p ⌝ }
+    requires { ⌜ t ≡ tokenFor (now tokens) end p ⌝ }
     ensures { λ r. ⌜ Chained (parent (input (now (tokens .entry)) (now (text .entry)) end) Pattern·Bind 0 (parseIdent (input (now (tokens .entry)) (now (text .entry)) end) ⊳ expect-at (input (now (tokens .entry)) (now (text .entry)) end) ⊳ parsePattern (input (now (tokens .entry)) (now (text .entry)) end) depth)) p (now (out .entry)) (now (out .exit)) r ⌝ }
 {
     let name = parse_ident(tokens, text, end, out, inside(p));
     let at = expect_at(tokens, end, name);
     let q = parse_pattern(tokens, text, end, out, at, depth);
-    close_at(tokens, end, out, p, Head::PATTERN_BIND, 0, q)
+    close_of(tokens, end, out, p, Head::PATTERN_BIND, 0, q, t)
 }
 
 // `(and ..)`
@@ -124,15 +126,17 @@ fn parse_and(
     out: &mut [u8],
     p: Parsed,
     depth: usize,
+    t: Token,
 ) -> Parsed
     requires { ⌜ Ready 3 (input (now tokens) (now text) end) p ⌝ }
+    requires { ⌜ t ≡ tokenFor (now tokens) end p ⌝ }
     ensures { λ r. ⌜ Chained (parent (input (now (tokens .entry)) (now (text .entry)) end) Pattern·And 0 (expect-lparen (input (now (tokens .entry)) (now (text .entry)) end) ⊳ expect-word (input (now (tokens .entry)) (now (text .entry)) end) word-and ⊳ row (input (now (tokens .entry)) (now (text .entry)) end) (parsePattern (input (now (tokens .entry)) (now (text .entry)) end) depth) ⊳ expect-rparen (input (now (tokens .entry)) (now (text .entry)) end))) p (now (out .entry)) (now (out .exit)) r ⌝ }
 {
-    let open = expect_lparen(tokens, end, inside(p));
+    let open = expect_lparen_of(tokens, end, inside(p), t);
     let word = expect_word(tokens, text, end, open, b"and");
     let list = parse_patterns(tokens, text, end, out, word, depth);
     let q = expect_rparen(tokens, end, list);
-    close_at(tokens, end, out, p, Head::PATTERN_AND, 0, q)
+    close_of(tokens, end, out, p, Head::PATTERN_AND, 0, q, t)
 }
 
 // `(term ..)`
@@ -143,15 +147,17 @@ fn parse_term(
     out: &mut [u8],
     p: Parsed,
     depth: usize,
+    t: Token,
 ) -> Parsed
     requires { ⌜ Ready 3 (input (now tokens) (now text) end) p ⌝ }
+    requires { ⌜ t ≡ tokenFor (now tokens) end p ⌝ }
     ensures { λ r. ⌜ Chained (parent (input (now (tokens .entry)) (now (text .entry)) end) Pattern·Term 0 (expect-lparen (input (now (tokens .entry)) (now (text .entry)) end) ⊳ parseIdent (input (now (tokens .entry)) (now (text .entry)) end) ⊳ row (input (now (tokens .entry)) (now (text .entry)) end) (parsePattern (input (now (tokens .entry)) (now (text .entry)) end) depth) ⊳ expect-rparen (input (now (tokens .entry)) (now (text .entry)) end))) p (now (out .entry)) (now (out .exit)) r ⌝ }
 {
-    let open = expect_lparen(tokens, end, inside(p));
+    let open = expect_lparen_of(tokens, end, inside(p), t);
     let name = parse_ident(tokens, text, end, out, open);
     let list = parse_patterns(tokens, text, end, out, name, depth);
     let q = expect_rparen(tokens, end, list);
-    close_at(tokens, end, out, p, Head::PATTERN_TERM, 0, q)
+    close_of(tokens, end, out, p, Head::PATTERN_TERM, 0, q, t)
 }
 
 // Patterns up to a `)`, which is left.

@@ -333,6 +333,10 @@ unfolding Ready Near
 near-ready c s (Accepted i n k) a = record { at = omega (arith, a .few, a .here); slot = omega (arith, a .few, a .here, a .room, a .slack); row = omega (arith, a .few, a .here, a .kids) }
 near-ready c s (Refused e) a = tt
 
+-- where a node's children begin
+pub near-inside : (s : Input) (p q : Parsed) → Ready 3 s p → q ≡ inside p → Near q
+near-inside s p q h e = near-ready 4 s q (ready-inside 3 4 (omega arith) (omega arith) s p q e h)
+
 -- fewer records to spare are more
 pub ready-more : (c c′ : ℕ) → c ≤ c′ → c′ ≤ 16 → (s : Input) (q : Parsed) → Ready c s q → Ready c′ s q
 unfolding Ready

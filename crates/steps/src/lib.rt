@@ -71,6 +71,25 @@ pub fn expect_lparen(tokens: &[u8], end: u32, p: Parsed) -> Parsed
     Parsed::Refused(unexpected(t, next))
 }
 
+// The same by the next token t, which its caller has read already.
+pub fn expect_lparen_of(tokens: &[u8], end: u32, p: Parsed, t: Token) -> Parsed
+    requires { ⌜ Near p ⌝ }
+    requires { ⌜ t ≡ tokenFor (now tokens) end p ⌝ }
+    ensures { λ r. ⌜ r ≡ moved (expectAt (now (tokens .entry)) end isLparen) p ⌝ }
+{
+    let Parsed::Accepted { next, count, items } = p else {
+        return p;
+    };
+    if t.is_lparen() {
+        return Parsed::Accepted {
+            next: after(tokens, next),
+            count,
+            items,
+        };
+    }
+    Parsed::Refused(unexpected(t, next))
+}
+
 pub fn expect_rparen(tokens: &[u8], end: u32, p: Parsed) -> Parsed
     ensures { λ r. ⌜ r ≡ moved (expectAt (now (tokens .entry)) end isRparen) p ⌝ }
 {
@@ -329,11 +348,30 @@ pub fn close_at(
     requires { ⌜ Small q ⌝ }
     ensures { λ r. ⌜ Closed (head kind flags (tokenFor (now (tokens .entry)) end p .pos) 0 0) p q (now (out .entry)) (now (out .exit)) r ⌝ }
 {
-    let pos = next_token(tokens, end, p).pos;
+    let t = next_token(tokens, end, p);
+    close_of(tokens, end, out, p, kind, flags, q, t)
+}
+
+// The same by that token t.
+pub fn close_of(
+    tokens: &[u8],
+    end: u32,
+    out: &mut [u8],
+    p: Parsed,
+    kind: u8,
+    flags: u8,
+    q: Parsed,
+    t: Token,
+) -> Parsed
+    requires { ⌜ Near p ⌝ }
+    requires { ⌜ Small q ⌝ }
+    requires { ⌜ t ≡ tokenFor (now tokens) end p ⌝ }
+    ensures { λ r. ⌜ Closed (head kind flags (tokenFor (now (tokens .entry)) end p .pos) 0 0) p q (now (out .entry)) (now (out .exit)) r ⌝ }
+{
     let h = Head {
         kind,
         flags,
-        pos,
+        pos: t.pos,
         word1: 0,
         word2: 0,
     };
@@ -416,14 +454,7 @@ pub fn ident_node_of(
 {
     let children = inside(p);
     let q = ident_of(tokens, text, end, out, children, t);
-    let h = Head {
-        kind,
-        flags: 0,
-        pos: t.pos,
-        word1: 0,
-        word2: 0,
-    };
-    close(out, p, h, q)
+    close_of(tokens, end, out, p, kind, 0, q, t)
 }
 
 // A node over the name of a constant, by the next token t.
@@ -442,14 +473,7 @@ pub fn const_node_of(
 {
     let children = inside(p);
     let q = parse_const(tokens, text, end, out, children);
-    let h = Head {
-        kind,
-        flags: 0,
-        pos: t.pos,
-        word1: 0,
-        word2: 0,
-    };
-    close(out, p, h, q)
+    close_of(tokens, end, out, p, kind, 0, q, t)
 }
 
 // An identifier, refused with `code` where it is none.

@@ -1,3 +1,4 @@
+use Rattle.steps.proofs.StepLaws.{token-inside}
 use borrow.Author.Needs.{needs}
 use native.Mathlib.Omega.{arith}
 use mathlib.Core.Path.{_≡_}
@@ -6,7 +7,7 @@ use Prim.Native.Nat.{ℕ, _+_, _*_, _<_}
 use Rattle.tokens.specs.Input.{input}
 use Rattle.steps.specs.Met.{Ready, endsAt}
 use Rattle.steps.proofs.MetLaws.{chain, token, refusing, node-read, leaf-here, leaf-by, next-yes, next-no, second-yes, second-no}
-use Rattle.steps.proofs.SizeLaws.{near-ready, small-after, small-moved, ready-inside, ready-after, ready-less, ready-token, ready-token-less, lparen-kinded, rparen-kinded, word-kinded, ident-bounded, ident-steady}
+use Rattle.steps.proofs.SizeLaws.{near-ready, small-after, small-moved, ready-inside, ready-after, ready-less, ready-token, ready-token-less, lparen-kinded, rparen-kinded, word-kinded, ident-bounded, ident-steady, near-inside}
 use Rattle.steps.proofs.RowLaws.{Going, left, going-start, row-going, row-falls, row-met}
 use Rattle.exprs.specs.Expr.{parseLetdef, letInside, parseExprInnerParens, exprIn, parseExpr}
 use Rattle.exprs.proofs.ExprLaws.{expr-steady, expr-item, exprs-steady, letdef-steady, letdef-item, defs-steady, inner-steady, too-deep, not-too-deep}
@@ -32,8 +33,10 @@ use Rattle.exprs.proofs.parse_letdefs.Reads as parse-letdefs
 use Rattle.exprs.proofs.parse_letdefs.Kinds as parse-letdefs-kinds
 use Rattle.exprs.proofs.+parse_expr+parse_expr_inner_parens+parse_exprs+parse_let+parse_letdef+parse_letdefs.Lts-parse_letdefs as parse-letdefs-lts
 use Rattle.steps.proofs.close_at.Reads as close-at-reads
+use Rattle.steps.proofs.close_of.Reads as close-of-reads
 use Rattle.steps.proofs.const_node_of.Reads as const-node-of-reads
 use Rattle.steps.proofs.expect_lparen.Reads as expect-lparen-reads
+use Rattle.steps.proofs.expect_lparen_of.Reads as expect-lparen-of-reads
 use Rattle.steps.proofs.expect_rparen.Reads as expect-rparen-reads
 use Rattle.steps.proofs.expect_word.Reads as expect-word-reads
 use Rattle.steps.proofs.goes_on.Reads as goes-on-reads
@@ -140,7 +143,7 @@ parse-expr-calls t =
 
 abbrev parse-expr-inner-parens-calls : ℕ → parse-expr-inner-parens-lts.Claims
 parse-expr-inner-parens-calls t =
-    (second-token-reads.Asked, second-token-reads.Learnt, inside-reads.Asked, inside-reads.Learnt, expect-lparen-reads.Asked, expect-lparen-reads.Learnt, is-word-reads.Asked, is-word-reads.Learnt, parse-let-below t, parse-let.Post, close-at-reads.Asked, close-at-reads.Learnt, parse-ident-reads.Asked, parse-ident-reads.Learnt, parse-exprs-below t, parse-exprs.Post, expect-rparen-reads.Asked, expect-rparen-reads.Learnt)
+    (second-token-reads.Asked, second-token-reads.Learnt, inside-reads.Asked, inside-reads.Learnt, expect-lparen-of-reads.Asked, expect-lparen-of-reads.Learnt, is-word-reads.Asked, is-word-reads.Learnt, parse-let-below t, parse-let.Post, close-of-reads.Asked, close-of-reads.Learnt, parse-ident-reads.Asked, parse-ident-reads.Learnt, parse-exprs-below t, parse-exprs.Post, expect-rparen-reads.Asked, expect-rparen-reads.Learnt)
 
 abbrev parse-exprs-calls : ℕ → parse-exprs-lts.Claims
 parse-exprs-calls t =
@@ -174,7 +177,7 @@ parse-expr-sub-parse-expr-inner-parens : (t : ℕ) → parse-expr-lts.Need-sub-p
 parse-expr-sub-parse-expr-inner-parens t c = search needs
 
 parse-expr-parse-expr-inner-parens-requires : (t : ℕ) → parse-expr-lts.Need-parse-expr-inner-parens-requires (parse-expr-calls t) (parse-expr-at t) parse-expr.Post
-parse-expr-parse-expr-inner-parens-requires t c κs = (omega arith, search needs)
+parse-expr-parse-expr-inner-parens-requires t c κs = (omega arith, (search needs, search needs))
 
 parse-expr-same-length : (t : ℕ) → parse-expr-lts.Need-same-length (parse-expr-calls t) (parse-expr-at t) parse-expr.Post
 parse-expr-same-length t c = search needs
@@ -267,8 +270,8 @@ parse-expr-inner-parens-second-token-requires t c κs = search near-ready
 parse-expr-inner-parens-inside-requires : (t : ℕ) → parse-expr-inner-parens-lts.Need-inside-requires (parse-expr-inner-parens-calls t) (parse-expr-inner-parens-at t) parse-expr-inner-parens.Post
 parse-expr-inner-parens-inside-requires t c κs = search near-ready
 
-parse-expr-inner-parens-expect-lparen-requires : (t : ℕ) → parse-expr-inner-parens-lts.Need-expect-lparen-requires (parse-expr-inner-parens-calls t) (parse-expr-inner-parens-at t) parse-expr-inner-parens.Post
-parse-expr-inner-parens-expect-lparen-requires t c κs = search needs
+parse-expr-inner-parens-expect-lparen-of-requires : (t : ℕ) → parse-expr-inner-parens-lts.Need-expect-lparen-of-requires (parse-expr-inner-parens-calls t) (parse-expr-inner-parens-at t) parse-expr-inner-parens.Post
+parse-expr-inner-parens-expect-lparen-of-requires t c κs = (search near-inside, search token-inside)
 
 parse-expr-inner-parens-slice-aggregate-is-word : (t : ℕ) → parse-expr-inner-parens-lts.Need-slice-aggregate-is-word (parse-expr-inner-parens-calls t) (parse-expr-inner-parens-at t) parse-expr-inner-parens.Post
 parse-expr-inner-parens-slice-aggregate-is-word t c = search needs
@@ -279,15 +282,15 @@ parse-expr-inner-parens-is-word-requires t c κs = search needs
 parse-expr-inner-parens-parse-let-requires : (t : ℕ) → parse-expr-inner-parens-lts.Need-parse-let-requires (parse-expr-inner-parens-calls t) (parse-expr-inner-parens-at t) parse-expr-inner-parens.Post
 parse-expr-inner-parens-parse-let-requires t c κs = (omega arith, search (ready-token-less 4 3 (omega arith) (omega arith), lparen-kinded, ready-inside 3 4 (omega arith) (omega arith)))
 
-parse-expr-inner-parens-close-at-requires : (t : ℕ) → parse-expr-inner-parens-lts.Need-close-at-requires (parse-expr-inner-parens-calls t) (parse-expr-inner-parens-at t) parse-expr-inner-parens.Post
-parse-expr-inner-parens-close-at-requires t c κs = (search near-ready, search (small-after 3, inner-steady, ready-token-less 4 3 (omega arith) (omega arith), lparen-kinded, ready-inside 3 4 (omega arith) (omega arith)))
+parse-expr-inner-parens-close-of-requires : (t : ℕ) → parse-expr-inner-parens-lts.Need-close-of-requires (parse-expr-inner-parens-calls t) (parse-expr-inner-parens-at t) parse-expr-inner-parens.Post
+parse-expr-inner-parens-close-of-requires t c κs = (search near-ready, (search (small-after 3, inner-steady, ready-token-less 4 3 (omega arith) (omega arith), lparen-kinded, ready-inside 3 4 (omega arith) (omega arith)), search needs))
 
 parse-expr-inner-parens-same-length : (t : ℕ) → parse-expr-inner-parens-lts.Need-same-length (parse-expr-inner-parens-calls t) (parse-expr-inner-parens-at t) parse-expr-inner-parens.Post
 parse-expr-inner-parens-same-length t c = search needs
 
 parse-expr-inner-parens-returns : (t : ℕ) → parse-expr-inner-parens-lts.Need-returns (parse-expr-inner-parens-calls t) (parse-expr-inner-parens-at t) parse-expr-inner-parens.Post
 unfolding parseExprInnerParens
-parse-expr-inner-parens-returns t c = second-yes _ _ _ _ _ _ _ _ _ _ _ _ (c .before .before .before .before .before .before .before .before .before .before .before .before .before .second-token .ensures) (c .before .before .before .before .before .before .before .before .before .is-word .ensures) (c .before .before .before .before .before .before .before .before .if1 .taken) (node-read _ _ _ _ _ _ _ _ _ _ _ _ _ (c .before .before .close-at .ensures) (c .before .before .before .before .before .before .before .before .before .before .before .before .inside .ensures) (chain _ _ _ _ _ _ _ _ (c .before .before .before .before .before .before .parse-let .ensures) (token _ _ _ _ _ _ (c .before .before .before .before .before .before .before .before .before .before .before .expect-lparen .ensures))))
+parse-expr-inner-parens-returns t c = second-yes _ _ _ _ _ _ _ _ _ _ _ _ (c .before .before .before .before .before .before .before .before .before .before .before .before .before .second-token .ensures) (c .before .before .before .before .before .before .before .before .before .is-word .ensures) (c .before .before .before .before .before .before .before .before .if1 .taken) (node-read _ _ _ _ _ _ _ _ _ _ _ _ _ (c .before .before .close-of .ensures) (c .before .before .before .before .before .before .before .before .before .before .before .before .inside .ensures) (chain _ _ _ _ _ _ _ _ (c .before .before .before .before .before .before .parse-let .ensures) (token _ _ _ _ _ _ (c .before .before .before .before .before .before .before .before .before .before .before .expect-lparen-of .ensures))))
 
 parse-expr-inner-parens-parse-ident-requires : (t : ℕ) → parse-expr-inner-parens-lts.Need-parse-ident-requires (parse-expr-inner-parens-calls t) (parse-expr-inner-parens-at t) parse-expr-inner-parens.Post
 parse-expr-inner-parens-parse-ident-requires t c κs = search (ready-token, lparen-kinded, ready-inside 3 4 (omega arith) (omega arith))
@@ -298,15 +301,15 @@ parse-expr-inner-parens-parse-exprs-requires t c κs = (omega arith, search (rea
 parse-expr-inner-parens-expect-rparen-requires : (t : ℕ) → parse-expr-inner-parens-lts.Need-expect-rparen-requires (parse-expr-inner-parens-calls t) (parse-expr-inner-parens-at t) parse-expr-inner-parens.Post
 parse-expr-inner-parens-expect-rparen-requires t c κs = search needs
 
-parse-expr-inner-parens-close-at-requires-2 : (t : ℕ) → parse-expr-inner-parens-lts.Need-close-at-requires-2 (parse-expr-inner-parens-calls t) (parse-expr-inner-parens-at t) parse-expr-inner-parens.Post
-parse-expr-inner-parens-close-at-requires-2 t c κs = (search near-ready, search (small-moved, small-after 3, exprs-steady, ready-less 4 3 2 (omega arith) (omega arith), ident-bounded, ready-token, lparen-kinded, ready-inside 3 4 (omega arith) (omega arith)))
+parse-expr-inner-parens-close-of-requires-2 : (t : ℕ) → parse-expr-inner-parens-lts.Need-close-of-requires-2 (parse-expr-inner-parens-calls t) (parse-expr-inner-parens-at t) parse-expr-inner-parens.Post
+parse-expr-inner-parens-close-of-requires-2 t c κs = (near-ready 3 _ _ (c .before .before .before .before .before .before .before .before .before .before .before .before .before .before .before .before .before .before .before .pre .1 .0), (search (small-moved, small-after 3, exprs-steady, ready-less 4 3 2 (omega arith) (omega arith), ident-bounded, ready-token, lparen-kinded, ready-inside 3 4 (omega arith) (omega arith), c .before .expect-rparen .ensures, c .before .before .before .before .parse-exprs .ensures, c .before .before .before .before .before .before .before .before .parse-ident .ensures, c .before .before .before .before .before .before .before .before .before .before .before .before .before .expect-lparen-of .ensures, c .before .before .before .before .before .before .before .before .before .before .before .before .before .before .inside .ensures, c .before .before .before .before .before .before .before .before .before .before .before .before .before .before .before .before .before .before .before .pre .1 .0), c .before .before .before .before .before .before .before .before .before .before .before .before .before .before .before .before .before .before .before .pre .1 .1))
 
 parse-expr-inner-parens-same-length-2 : (t : ℕ) → parse-expr-inner-parens-lts.Need-same-length-2 (parse-expr-inner-parens-calls t) (parse-expr-inner-parens-at t) parse-expr-inner-parens.Post
 parse-expr-inner-parens-same-length-2 t c = search needs
 
 parse-expr-inner-parens-returns-2 : (t : ℕ) → parse-expr-inner-parens-lts.Need-returns-2 (parse-expr-inner-parens-calls t) (parse-expr-inner-parens-at t) parse-expr-inner-parens.Post
 unfolding parseExprInnerParens
-parse-expr-inner-parens-returns-2 t c = second-no _ _ _ _ _ _ _ _ _ _ _ _ (c .before .before .before .before .before .before .before .before .before .before .before .before .before .before .before .before .before .before .second-token .ensures) (c .before .before .before .before .before .before .before .before .before .before .before .before .before .before .is-word .ensures) (c .before .before .before .before .before .before .before .before .before .before .before .before .before .if1 .left) (node-read _ _ _ _ _ _ _ _ _ _ _ _ _ (c .before .before .close-at2 .ensures) (c .before .before .before .before .before .before .before .before .before .before .before .before .before .before .before .before .before .inside .ensures) (chain _ _ _ _ _ _ _ _ (token _ _ _ _ _ _ (c .before .before .before .before .expect-rparen .ensures)) (chain _ _ _ _ _ _ _ _ (c .before .before .before .before .before .before .before .parse-exprs .ensures) (chain _ _ _ _ _ _ _ _ (c .before .before .before .before .before .before .before .before .before .before .before .parse-ident .ensures) (token _ _ _ _ _ _ (c .before .before .before .before .before .before .before .before .before .before .before .before .before .before .before .before .expect-lparen .ensures))))))
+parse-expr-inner-parens-returns-2 t c = second-no _ _ _ _ _ _ _ _ _ _ _ _ (c .before .before .before .before .before .before .before .before .before .before .before .before .before .before .before .before .before .before .second-token .ensures) (c .before .before .before .before .before .before .before .before .before .before .before .before .before .before .is-word .ensures) (c .before .before .before .before .before .before .before .before .before .before .before .before .before .if1 .left) (node-read _ _ _ _ _ _ _ _ _ _ _ _ _ (c .before .before .close-of2 .ensures) (c .before .before .before .before .before .before .before .before .before .before .before .before .before .before .before .before .before .inside .ensures) (chain _ _ _ _ _ _ _ _ (token _ _ _ _ _ _ (c .before .before .before .before .expect-rparen .ensures)) (chain _ _ _ _ _ _ _ _ (c .before .before .before .before .before .before .before .parse-exprs .ensures) (chain _ _ _ _ _ _ _ _ (c .before .before .before .before .before .before .before .before .before .before .before .parse-ident .ensures) (token _ _ _ _ _ _ (c .before .before .before .before .before .before .before .before .before .before .before .before .before .before .before .before .expect-lparen-of .ensures))))))
 
 abbrev parse-exprs-Inv-loop : parse-exprs-lts.InvT-loop
 parse-exprs-Inv-loop tokens text end out₀ depth q₀ out q = Going (input tokens text end) (endsAt tokens end) (λ _. parseExpr (input tokens text end) depth) q₀ out₀ q out × Ready 3 (input tokens text end) q × (length out ≡ length out₀)
@@ -468,17 +471,17 @@ pub +parse-expr+parse-expr-inner-parens+parse-exprs+parse-let+parse-letdef+parse
     parse-expr-inner-parens.Post
     (parse-expr-inner-parens-second-token-requires t)
     (parse-expr-inner-parens-inside-requires t)
-    (parse-expr-inner-parens-expect-lparen-requires t)
+    (parse-expr-inner-parens-expect-lparen-of-requires t)
     (parse-expr-inner-parens-slice-aggregate-is-word t)
     (parse-expr-inner-parens-is-word-requires t)
     (parse-expr-inner-parens-parse-let-requires t)
-    (parse-expr-inner-parens-close-at-requires t)
+    (parse-expr-inner-parens-close-of-requires t)
     (parse-expr-inner-parens-same-length t)
     (parse-expr-inner-parens-returns t)
     (parse-expr-inner-parens-parse-ident-requires t)
     (parse-expr-inner-parens-parse-exprs-requires t)
     (parse-expr-inner-parens-expect-rparen-requires t)
-    (parse-expr-inner-parens-close-at-requires-2 t)
+    (parse-expr-inner-parens-close-of-requires-2 t)
     (parse-expr-inner-parens-same-length-2 t)
     (parse-expr-inner-parens-returns-2 t))
     (λ t. parse-exprs-lts.spec (parse-exprs-calls t)

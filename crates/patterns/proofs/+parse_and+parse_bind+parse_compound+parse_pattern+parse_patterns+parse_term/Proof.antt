@@ -1,3 +1,4 @@
+use Rattle.steps.proofs.StepLaws.{token-inside}
 use borrow.Author.Needs.{needs}
 use native.Mathlib.Omega.{arith}
 use mathlib.Core.Path.{_≡_}
@@ -6,7 +7,7 @@ use Prim.Native.Nat.{ℕ, _+_, _*_, _<_}
 use Rattle.tokens.specs.Input.{input}
 use Rattle.steps.specs.Met.{Ready, endsAt}
 use Rattle.steps.proofs.MetLaws.{chain, token, refusing, node-read, leaf-here, leaf-by, next-yes, next-no, second-yes, second-no}
-use Rattle.steps.proofs.SizeLaws.{near-ready, small-after, small-moved, ready-inside, ready-after, ready-less, ready-token, ready-token-less, lparen-kinded, at-kinded, word-kinded, ident-bounded, ident-steady}
+use Rattle.steps.proofs.SizeLaws.{near-ready, small-after, small-moved, ready-inside, ready-after, ready-less, ready-token, ready-token-less, lparen-kinded, at-kinded, word-kinded, ident-bounded, ident-steady, near-inside}
 use Rattle.steps.proofs.RowLaws.{Going, left, going-start, row-going, row-falls, row-met}
 use Rattle.patterns.specs.Pattern.{compound, patternIn, parsePattern}
 use Rattle.patterns.proofs.PatternLaws.{pattern-steady, pattern-item, patterns-steady, too-deep, not-too-deep}
@@ -31,10 +32,10 @@ use Rattle.patterns.proofs.+parse_and+parse_bind+parse_compound+parse_p
 use Rattle.patterns.proofs.parse_term.Reads as parse-term
 use Rattle.patterns.proofs.parse_term.Kinds as parse-term-kinds
 use Rattle.patterns.proofs.+parse_and+parse_bind+parse_compound+parse_pattern+parse_patterns+parse_term.Lts-parse_term as parse-term-lts
-use Rattle.steps.proofs.close_at.Reads as close-at-reads
+use Rattle.steps.proofs.close_of.Reads as close-of-reads
 use Rattle.steps.proofs.const_node_of.Reads as const-node-of-reads
 use Rattle.steps.proofs.expect_at.Reads as expect-at-reads
-use Rattle.steps.proofs.expect_lparen.Reads as expect-lparen-reads
+use Rattle.steps.proofs.expect_lparen_of.Reads as expect-lparen-of-reads
 use Rattle.steps.proofs.expect_rparen.Reads as expect-rparen-reads
 use Rattle.steps.proofs.expect_word.Reads as expect-word-reads
 use Rattle.steps.proofs.goes_on.Reads as goes-on-reads
@@ -142,13 +143,13 @@ parse-term-below t =
 
 abbrev parse-and-calls : ℕ → parse-and-lts.Claims
 parse-and-calls t =
-    (inside-reads.Asked, inside-reads.Learnt, expect-lparen-reads.Asked, expect-lparen-reads.Learnt, expect-word-reads.Asked, expect-word-reads.Learnt, parse-patterns-below t, parse-patterns.Post, expect-rparen-reads.Asked, expect-rparen-reads.Learnt, close-at-reads.Asked, close-at-reads.Learnt)
+    (inside-reads.Asked, inside-reads.Learnt, expect-lparen-of-reads.Asked, expect-lparen-of-reads.Learnt, expect-word-reads.Asked, expect-word-reads.Learnt, parse-patterns-below t, parse-patterns.Post, expect-rparen-reads.Asked, expect-rparen-reads.Learnt, close-of-reads.Asked, close-of-reads.Learnt)
 
 parse-and-inside-requires : (t : ℕ) → parse-and-lts.Need-inside-requires (parse-and-calls t) (parse-and-at t) parse-and.Post
 parse-and-inside-requires t c κs = search near-ready
 
-parse-and-expect-lparen-requires : (t : ℕ) → parse-and-lts.Need-expect-lparen-requires (parse-and-calls t) (parse-and-at t) parse-and.Post
-parse-and-expect-lparen-requires t c κs = search needs
+parse-and-expect-lparen-of-requires : (t : ℕ) → parse-and-lts.Need-expect-lparen-of-requires (parse-and-calls t) (parse-and-at t) parse-and.Post
+parse-and-expect-lparen-of-requires t c κs = (search near-inside, search token-inside)
 
 parse-and-slice-aggregate-expect-word : (t : ℕ) → parse-and-lts.Need-slice-aggregate-expect-word (parse-and-calls t) (parse-and-at t) parse-and.Post
 parse-and-slice-aggregate-expect-word t c = search needs
@@ -157,23 +158,23 @@ parse-and-expect-word-requires : (t : ℕ) → parse-and-lts.Need-expect-word-re
 parse-and-expect-word-requires t c κs = search needs
 
 parse-and-parse-patterns-requires : (t : ℕ) → parse-and-lts.Need-parse-patterns-requires (parse-and-calls t) (parse-and-at t) parse-and.Post
-parse-and-parse-patterns-requires t c κs = (omega arith, search (ready-token-less 4 3 (omega arith) (omega arith), ready-token, word-kinded, lparen-kinded, ready-inside 3 4 (omega arith) (omega arith), c .before .expect-word .ensures, c .before .before .before .expect-lparen .ensures, c .before .before .before .before .inside .ensures, c .before .before .before .before .before .before .before .before .pre .1))
+parse-and-parse-patterns-requires t c κs = (omega arith, search (ready-token-less 4 3 (omega arith) (omega arith), ready-token, word-kinded, lparen-kinded, ready-inside 3 4 (omega arith) (omega arith), c .before .expect-word .ensures, c .before .before .before .expect-lparen-of .ensures, c .before .before .before .before .inside .ensures, c .before .before .before .before .before .before .before .before .pre .1 .0))
 
 parse-and-expect-rparen-requires : (t : ℕ) → parse-and-lts.Need-expect-rparen-requires (parse-and-calls t) (parse-and-at t) parse-and.Post
 parse-and-expect-rparen-requires t c κs = search needs
 
-parse-and-close-at-requires : (t : ℕ) → parse-and-lts.Need-close-at-requires (parse-and-calls t) (parse-and-at t) parse-and.Post
-parse-and-close-at-requires t c κs = (search near-ready, search (small-moved, small-after 3, patterns-steady, ready-token-less 4 3 (omega arith) (omega arith), ready-token, word-kinded, lparen-kinded, ready-inside 3 4 (omega arith) (omega arith)))
+parse-and-close-of-requires : (t : ℕ) → parse-and-lts.Need-close-of-requires (parse-and-calls t) (parse-and-at t) parse-and.Post
+parse-and-close-of-requires t c κs = (search near-ready, (search (small-moved, small-after 3, patterns-steady, ready-token-less 4 3 (omega arith) (omega arith), ready-token, word-kinded, lparen-kinded, ready-inside 3 4 (omega arith) (omega arith)), search needs))
 
 parse-and-same-length : (t : ℕ) → parse-and-lts.Need-same-length (parse-and-calls t) (parse-and-at t) parse-and.Post
 parse-and-same-length t c = search needs
 
 parse-and-returns : (t : ℕ) → parse-and-lts.Need-returns (parse-and-calls t) (parse-and-at t) parse-and.Post
-parse-and-returns t c = node-read _ _ _ _ _ _ _ _ _ _ _ _ _ (c .before .before .close-at .ensures) (c .before .before .before .before .before .before .before .before .before .before .before .before .inside .ensures) (chain _ _ _ _ _ _ _ _ (token _ _ _ _ _ _ (c .before .before .before .before .expect-rparen .ensures)) (chain _ _ _ _ _ _ _ _ (c .before .before .before .before .before .before .before .parse-patterns .ensures) (chain _ _ _ _ _ _ _ _ (token _ _ _ _ _ _ (c .before .before .before .before .before .before .before .before .before .expect-word .ensures)) (token _ _ _ _ _ _ (c .before .before .before .before .before .before .before .before .before .before .before .expect-lparen .ensures)))))
+parse-and-returns t c = node-read _ _ _ _ _ _ _ _ _ _ _ _ _ (c .before .before .close-of .ensures) (c .before .before .before .before .before .before .before .before .before .before .before .before .inside .ensures) (chain _ _ _ _ _ _ _ _ (token _ _ _ _ _ _ (c .before .before .before .before .expect-rparen .ensures)) (chain _ _ _ _ _ _ _ _ (c .before .before .before .before .before .before .before .parse-patterns .ensures) (chain _ _ _ _ _ _ _ _ (token _ _ _ _ _ _ (c .before .before .before .before .before .before .before .before .before .expect-word .ensures)) (token _ _ _ _ _ _ (c .before .before .before .before .before .before .before .before .before .before .before .expect-lparen-of .ensures)))))
 
 abbrev parse-bind-calls : ℕ → parse-bind-lts.Claims
 parse-bind-calls t =
-    (inside-reads.Asked, inside-reads.Learnt, parse-ident-reads.Asked, parse-ident-reads.Learnt, expect-at-reads.Asked, expect-at-reads.Learnt, parse-pattern-below t, parse-pattern.Post, close-at-reads.Asked, close-at-reads.Learnt)
+    (inside-reads.Asked, inside-reads.Learnt, parse-ident-reads.Asked, parse-ident-reads.Learnt, expect-at-reads.Asked, expect-at-reads.Learnt, parse-pattern-below t, parse-pattern.Post, close-of-reads.Asked, close-of-reads.Learnt)
 
 parse-bind-inside-requires : (t : ℕ) → parse-bind-lts.Need-inside-requires (parse-bind-calls t) (parse-bind-at t) parse-bind.Post
 parse-bind-inside-requires t c κs = search near-ready
@@ -187,14 +188,14 @@ parse-bind-expect-at-requires t c κs = search needs
 parse-bind-parse-pattern-requires : (t : ℕ) → parse-bind-lts.Need-parse-pattern-requires (parse-bind-calls t) (parse-bind-at t) parse-bind.Post
 parse-bind-parse-pattern-requires t c κs = (omega arith, search (ready-token-less 4 3 (omega arith) (omega arith), at-kinded, ready-after, ident-steady, ready-inside 3 4 (omega arith) (omega arith)))
 
-parse-bind-close-at-requires : (t : ℕ) → parse-bind-lts.Need-close-at-requires (parse-bind-calls t) (parse-bind-at t) parse-bind.Post
-parse-bind-close-at-requires t c κs = (search near-ready, search (small-after 3, pattern-steady, ready-token-less 4 3 (omega arith) (omega arith), at-kinded, ready-after, ident-steady, ready-inside 3 4 (omega arith) (omega arith)))
+parse-bind-close-of-requires : (t : ℕ) → parse-bind-lts.Need-close-of-requires (parse-bind-calls t) (parse-bind-at t) parse-bind.Post
+parse-bind-close-of-requires t c κs = (search near-ready, (search (small-after 3, pattern-steady, ready-token-less 4 3 (omega arith) (omega arith), at-kinded, ready-after, ident-steady, ready-inside 3 4 (omega arith) (omega arith)), search needs))
 
 parse-bind-same-length : (t : ℕ) → parse-bind-lts.Need-same-length (parse-bind-calls t) (parse-bind-at t) parse-bind.Post
 parse-bind-same-length t c = search needs
 
 parse-bind-returns : (t : ℕ) → parse-bind-lts.Need-returns (parse-bind-calls t) (parse-bind-at t) parse-bind.Post
-parse-bind-returns t c = node-read _ _ _ _ _ _ _ _ _ _ _ _ _ (c .before .before .close-at .ensures) (c .before .before .before .before .before .before .before .before .before .before .before .before .inside .ensures) (chain _ _ _ _ _ _ _ _ (c .before .before .before .before .before .before .parse-pattern .ensures) (chain _ _ _ _ _ _ _ _ (token _ _ _ _ _ _ (c .before .before .before .before .before .before .before .before .expect-at .ensures)) (c .before .before .before .before .before .before .before .before .before .before .before .parse-ident .ensures)))
+parse-bind-returns t c = node-read _ _ _ _ _ _ _ _ _ _ _ _ _ (c .before .before .close-of .ensures) (c .before .before .before .before .before .before .before .before .before .before .before .before .inside .ensures) (chain _ _ _ _ _ _ _ _ (c .before .before .before .before .before .before .parse-pattern .ensures) (chain _ _ _ _ _ _ _ _ (token _ _ _ _ _ _ (c .before .before .before .before .before .before .before .before .expect-at .ensures)) (c .before .before .before .before .before .before .before .before .before .before .before .parse-ident .ensures)))
 
 abbrev parse-compound-calls : ℕ → parse-compound-lts.Claims
 parse-compound-calls t =
@@ -210,7 +211,7 @@ parse-compound-is-at-requires : (t : ℕ) → parse-compound-lts.Need-is-at-requ
 parse-compound-is-at-requires t c κs = search needs
 
 parse-compound-parse-bind-requires : (t : ℕ) → parse-compound-lts.Need-parse-bind-requires (parse-compound-calls t) (parse-compound-at t) parse-compound.Post
-parse-compound-parse-bind-requires t c κs = (omega arith, search needs)
+parse-compound-parse-bind-requires t c κs = (omega arith, (search needs, search needs))
 
 parse-compound-same-length : (t : ℕ) → parse-compound-lts.Need-same-length (parse-compound-calls t) (parse-compound-at t) parse-compound.Post
 parse-compound-same-length t c = search needs
@@ -239,7 +240,7 @@ parse-compound-is-word-requires : (t : ℕ) → parse-compound-lts.Need-is-word-
 parse-compound-is-word-requires t c κs = search needs
 
 parse-compound-parse-and-requires : (t : ℕ) → parse-compound-lts.Need-parse-and-requires (parse-compound-calls t) (parse-compound-at t) parse-compound.Post
-parse-compound-parse-and-requires t c κs = (omega arith, search needs)
+parse-compound-parse-and-requires t c κs = (omega arith, (search needs, search needs))
 
 parse-compound-same-length-3 : (t : ℕ) → parse-compound-lts.Need-same-length-3 (parse-compound-calls t) (parse-compound-at t) parse-compound.Post
 parse-compound-same-length-3 t c = search needs
@@ -249,7 +250,7 @@ unfolding compound
 parse-compound-returns-3 t c = search (next-yes, next-no, second-yes, second-no, refusing)
 
 parse-compound-parse-term-requires : (t : ℕ) → parse-compound-lts.Need-parse-term-requires (parse-compound-calls t) (parse-compound-at t) parse-compound.Post
-parse-compound-parse-term-requires t c κs = (omega arith, search needs)
+parse-compound-parse-term-requires t c κs = (omega arith, (search needs, search needs))
 
 parse-compound-same-length-4 : (t : ℕ) → parse-compound-lts.Need-same-length-4 (parse-compound-calls t) (parse-compound-at t) parse-compound.Post
 parse-compound-same-length-4 t c = search needs
@@ -398,13 +399,13 @@ parse-patterns-returns t c = search row-met
 
 abbrev parse-term-calls : ℕ → parse-term-lts.Claims
 parse-term-calls t =
-    (inside-reads.Asked, inside-reads.Learnt, expect-lparen-reads.Asked, expect-lparen-reads.Learnt, parse-ident-reads.Asked, parse-ident-reads.Learnt, parse-patterns-below t, parse-patterns.Post, expect-rparen-reads.Asked, expect-rparen-reads.Learnt, close-at-reads.Asked, close-at-reads.Learnt)
+    (inside-reads.Asked, inside-reads.Learnt, expect-lparen-of-reads.Asked, expect-lparen-of-reads.Learnt, parse-ident-reads.Asked, parse-ident-reads.Learnt, parse-patterns-below t, parse-patterns.Post, expect-rparen-reads.Asked, expect-rparen-reads.Learnt, close-of-reads.Asked, close-of-reads.Learnt)
 
 parse-term-inside-requires : (t : ℕ) → parse-term-lts.Need-inside-requires (parse-term-calls t) (parse-term-at t) parse-term.Post
 parse-term-inside-requires t c κs = search near-ready
 
-parse-term-expect-lparen-requires : (t : ℕ) → parse-term-lts.Need-expect-lparen-requires (parse-term-calls t) (parse-term-at t) parse-term.Post
-parse-term-expect-lparen-requires t c κs = search needs
+parse-term-expect-lparen-of-requires : (t : ℕ) → parse-term-lts.Need-expect-lparen-of-requires (parse-term-calls t) (parse-term-at t) parse-term.Post
+parse-term-expect-lparen-of-requires t c κs = (search near-inside, search token-inside)
 
 parse-term-parse-ident-requires : (t : ℕ) → parse-term-lts.Need-parse-ident-requires (parse-term-calls t) (parse-term-at t) parse-term.Post
 parse-term-parse-ident-requires t c κs = search (ready-token, lparen-kinded, ready-inside 3 4 (omega arith) (omega arith))
@@ -415,14 +416,14 @@ parse-term-parse-patterns-requires t c κs = (omega arith, search (ready-less 4 
 parse-term-expect-rparen-requires : (t : ℕ) → parse-term-lts.Need-expect-rparen-requires (parse-term-calls t) (parse-term-at t) parse-term.Post
 parse-term-expect-rparen-requires t c κs = search needs
 
-parse-term-close-at-requires : (t : ℕ) → parse-term-lts.Need-close-at-requires (parse-term-calls t) (parse-term-at t) parse-term.Post
-parse-term-close-at-requires t c κs = (search near-ready, search (small-moved, small-after 3, patterns-steady, ready-less 4 3 2 (omega arith) (omega arith), ident-bounded, ready-token, lparen-kinded, ready-inside 3 4 (omega arith) (omega arith)))
+parse-term-close-of-requires : (t : ℕ) → parse-term-lts.Need-close-of-requires (parse-term-calls t) (parse-term-at t) parse-term.Post
+parse-term-close-of-requires t c κs = (search near-ready, (search (small-moved, small-after 3, patterns-steady, ready-less 4 3 2 (omega arith) (omega arith), ident-bounded, ready-token, lparen-kinded, ready-inside 3 4 (omega arith) (omega arith)), search needs))
 
 parse-term-same-length : (t : ℕ) → parse-term-lts.Need-same-length (parse-term-calls t) (parse-term-at t) parse-term.Post
 parse-term-same-length t c = search needs
 
 parse-term-returns : (t : ℕ) → parse-term-lts.Need-returns (parse-term-calls t) (parse-term-at t) parse-term.Post
-parse-term-returns t c = node-read _ _ _ _ _ _ _ _ _ _ _ _ _ (c .before .before .close-at .ensures) (c .before .before .before .before .before .before .before .before .before .before .before .before .before .before .inside .ensures) (chain _ _ _ _ _ _ _ _ (token _ _ _ _ _ _ (c .before .before .before .before .expect-rparen .ensures)) (chain _ _ _ _ _ _ _ _ (c .before .before .before .before .before .before .before .parse-patterns .ensures) (chain _ _ _ _ _ _ _ _ (c .before .before .before .before .before .before .before .before .before .before .before .parse-ident .ensures) (token _ _ _ _ _ _ (c .before .before .before .before .before .before .before .before .before .before .before .before .before .expect-lparen .ensures)))))
+parse-term-returns t c = node-read _ _ _ _ _ _ _ _ _ _ _ _ _ (c .before .before .close-of .ensures) (c .before .before .before .before .before .before .before .before .before .before .before .before .before .before .inside .ensures) (chain _ _ _ _ _ _ _ _ (token _ _ _ _ _ _ (c .before .before .before .before .expect-rparen .ensures)) (chain _ _ _ _ _ _ _ _ (c .before .before .before .before .before .before .before .parse-patterns .ensures) (chain _ _ _ _ _ _ _ _ (c .before .before .before .before .before .before .before .before .before .before .before .parse-ident .ensures) (token _ _ _ _ _ _ (c .before .before .before .before .before .before .before .before .before .before .before .before .before .expect-lparen-of .ensures)))))
 
 pub +parse-and+parse-bind+parse-compound+parse-pattern+parse-patterns+parse-term-spec :
     {M : Type 1} → statement M
@@ -438,12 +439,12 @@ pub +parse-and+parse-bind+parse-compound+parse-pattern+parse-patterns+parse-term
     (parse-and-at t)
     parse-and.Post
     (parse-and-inside-requires t)
-    (parse-and-expect-lparen-requires t)
+    (parse-and-expect-lparen-of-requires t)
     (parse-and-slice-aggregate-expect-word t)
     (parse-and-expect-word-requires t)
     (parse-and-parse-patterns-requires t)
     (parse-and-expect-rparen-requires t)
-    (parse-and-close-at-requires t)
+    (parse-and-close-of-requires t)
     (parse-and-same-length t)
     (parse-and-returns t))
     (λ t. parse-bind-lts.spec (parse-bind-calls t)
@@ -453,7 +454,7 @@ pub +parse-and+parse-bind+parse-compound+parse-pattern+parse-patterns+parse-term
     (parse-bind-parse-ident-requires t)
     (parse-bind-expect-at-requires t)
     (parse-bind-parse-pattern-requires t)
-    (parse-bind-close-at-requires t)
+    (parse-bind-close-of-requires t)
     (parse-bind-same-length t)
     (parse-bind-returns t))
     (λ t. parse-compound-lts.spec (parse-compound-calls t)
@@ -528,10 +529,10 @@ pub +parse-and+parse-bind+parse-compound+parse-pattern+parse-patterns+parse-term
     (parse-term-at t)
     parse-term.Post
     (parse-term-inside-requires t)
-    (parse-term-expect-lparen-requires t)
+    (parse-term-expect-lparen-of-requires t)
     (parse-term-parse-ident-requires t)
     (parse-term-parse-patterns-requires t)
     (parse-term-expect-rparen-requires t)
-    (parse-term-close-at-requires t)
+    (parse-term-close-of-requires t)
     (parse-term-same-length t)
     (parse-term-returns t)
