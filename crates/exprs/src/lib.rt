@@ -2,6 +2,7 @@
 // depth less for the expressions inside.
 pub mod iflets;
 use steps::Parsed;
+use steps::again;
 use steps::close_at;
 use steps::close_of;
 use steps::const_node_of;
@@ -39,24 +40,25 @@ pub fn parse_expr(
     requires { ⌜ Ready 3 (input (now tokens) (now text) end) p ⌝ }
     ensures { λ r. ⌜ Chained (parseExpr (input (now (tokens .entry)) (now (text .entry)) end) depth) p (now (out .entry)) (now (out .exit)) r ⌝ }
 {
+    let q = again(p);
     if depth == 0 {
-        return refuse_at(tokens, end, p, 8);
+        return refuse_at(tokens, end, q, 8);
     }
-    let t = next_token(tokens, end, p);
+    let t = next_token(tokens, end, q);
     if t.is_lparen() {
-        return parse_expr_inner_parens(tokens, text, end, out, p, depth - 1, t);
+        return parse_expr_inner_parens(tokens, text, end, out, q, depth - 1, t);
     }
     if t.is_const(text) {
-        return const_node_of(tokens, text, end, out, p, Head::EXPR_CONST, t);
+        return const_node_of(tokens, text, end, out, q, Head::EXPR_CONST, t);
     }
     if t.is_word(text, b"true") {
-        return leaf_of(tokens, end, out, p, Head::EXPR_BOOL, 1, t);
+        return leaf_of(tokens, end, out, q, Head::EXPR_BOOL, 1, t);
     }
     if t.is_word(text, b"false") {
-        return leaf_of(tokens, end, out, p, Head::EXPR_BOOL, 0, t);
+        return leaf_of(tokens, end, out, q, Head::EXPR_BOOL, 0, t);
     }
     if t.is_symbol() {
-        return ident_node_of(tokens, text, end, out, p, Head::EXPR_VAR, t);
+        return ident_node_of(tokens, text, end, out, q, Head::EXPR_VAR, t);
     }
     if t.is_int() {
         let h = Head {
@@ -66,9 +68,9 @@ pub fn parse_expr(
             word1: t.word1,
             word2: t.word2,
         };
-        return put_leaf(tokens, out, p, h);
+        return put_leaf(tokens, out, q, h);
     }
-    refuse_at(tokens, end, p, 26)
+    refuse_at(tokens, end, q, 26)
 }
 
 // `(let ..)` or `(term ..)`, the `(` standing at p as t; the expressions inside are of at most this depth.

@@ -120,7 +120,7 @@ module _ {s : Input} {judge : List ℕ → ℕ} {P : ℕ → Type 0} (range : �
   judged i c p k false q e = absurd (clash e)
 
   met : (i : ℕ) {ts : Trees} {j : ℕ} (b : Bool) → isSymbol (peek s i) ≡ b
-      → choose b (λ _. identAt (peek s i) (range (peek s i .word1)) (judge (spelling s i)) i) (λ _. refuse (unexpected (peek s i) i)) ≡ accept ts j → One P Tree-at i ts j
+      → choose b (λ _. identAt (peek s i .pos) (range (peek s i .word1)) (judge (spelling s i)) i) (λ _. refuse (unexpected (peek s i) i)) ≡ accept ts j → One P Tree-at i ts j
   unfolding identAt
   met i true p e = judged i (judge (spelling s i)) refl (symbols s .at i .yes p) (eqb (judge (spelling s i)) 0) refl e
   met i false p e = absurd (clash e)
@@ -131,7 +131,7 @@ module _ {s : Input} {judge : List ℕ → ℕ} {P : ℕ → Type 0} (range : �
   judged-ground i c g false q z = let l = g (eqb-false c 0 q) in same-ground z (record { low = l .0; high = l .1 })
 
   met-ground : (i : ℕ) {e : Refusal} (b : Bool)
-      → choose b (λ _. identAt (peek s i) (range (peek s i .word1)) (judge (spelling s i)) i) (λ _. refuse (unexpected (peek s i) i)) ≡ refuse e → Ground e
+      → choose b (λ _. identAt (peek s i .pos) (range (peek s i .word1)) (judge (spelling s i)) i) (λ _. refuse (unexpected (peek s i) i)) ≡ refuse e → Ground e
   unfolding identAt
   met-ground i true z = judged-ground i (judge (spelling s i)) (n .ground (spelling s i)) (eqb (judge (spelling s i)) 0) refl z
   met-ground i false z = same-ground z (unexpected-ground (peek s i) i)

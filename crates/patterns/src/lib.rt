@@ -1,6 +1,7 @@
 // parse_pattern of the Rust: a pattern's records from its tokens. The functions that read a pattern's parts call it again,
 // with one level of depth less.
 use steps::Parsed;
+use steps::again;
 use steps::close_of;
 use steps::const_node_of;
 use steps::expect_at;
@@ -15,6 +16,7 @@ use steps::next_token;
 use steps::parse_ident;
 use steps::put_leaf;
 use steps::refuse_at;
+use steps::second_kind;
 use steps::second_token;
 use tokens::Token;
 use trees::Head;
@@ -39,10 +41,11 @@ pub fn parse_pattern(
     requires { ⌜ Ready 3 (input (now tokens) (now text) end) p ⌝ }
     ensures { λ r. ⌜ Chained (parsePattern (input (now (tokens .entry)) (now (text .entry)) end) depth) p (now (out .entry)) (now (out .exit)) r ⌝ }
 {
+    let q = again(p);
     if depth == 0 {
-        return refuse_at(tokens, end, p, 8);
+        return refuse_at(tokens, end, q, 8);
     }
-    let t = next_token(tokens, end, p);
+    let t = next_token(tokens, end, q);
     if t.is_int() {
         let h = Head {
             kind: Head::PATTERN_INT,
@@ -51,21 +54,21 @@ pub fn parse_pattern(
             word1: t.word1,
             word2: t.word2,
         };
-        return put_leaf(tokens, out, p, h);
+        return put_leaf(tokens, out, q, h);
     }
     if t.is_const(text) {
-        return const_node_of(tokens, text, end, out, p, Head::PATTERN_CONST, t);
+        return const_node_of(tokens, text, end, out, q, Head::PATTERN_CONST, t);
     }
     if t.is_word(text, b"_") {
-        return leaf_of(tokens, end, out, p, Head::PATTERN_WILDCARD, 0, t);
+        return leaf_of(tokens, end, out, q, Head::PATTERN_WILDCARD, 0, t);
     }
     if t.is_word(text, b"true") {
-        return leaf_of(tokens, end, out, p, Head::PATTERN_BOOL, 1, t);
+        return leaf_of(tokens, end, out, q, Head::PATTERN_BOOL, 1, t);
     }
     if t.is_word(text, b"false") {
-        return leaf_of(tokens, end, out, p, Head::PATTERN_BOOL, 0, t);
+        return leaf_of(tokens, end, out, q, Head::PATTERN_BOOL, 0, t);
     }
-    parse_compound(tokens, text, end, out, p, depth - 1, t)
+    parse_compound(tokens, text, end, out, q, depth - 1, t)
 }
 
 // A pattern that is a name, bound or not, or stands in parentheses, by the next token t; the patterns inside are of at most this depth.
@@ -82,14 +85,14 @@ fn parse_compound(
     requires { ⌜ t ≡ tokenFor (now tokens) end p ⌝ }
     ensures { λ r. ⌜ Chained (compound (input (now (tokens .entry)) (now (text .entry)) end) (parsePattern (input (now (tokens .entry)) (now (text .entry)) end) depth)) p (now (out .entry)) (now (out .exit)) r ⌝ }
 {
-    let u = second_token(tokens, end, p);
     if t.is_symbol() {
-        if u.is_at() {
+        if second_kind(tokens, end, p) == Token::AT {
             return parse_bind(tokens, text, end, out, p, depth, t);
         }
         return ident_node_of(tokens, text, end, out, p, Head::PATTERN_VAR, t);
     }
     if t.is_lparen() {
+        let u = second_token(tokens, end, p);
         if u.is_word(text, b"and") {
             return parse_and(tokens, text, end, out, p, depth, t);
         }

@@ -12,9 +12,10 @@ use Rattle.trees.specs.declared.Head.{Head}
 use Rattle.trees.proofs.Laws.{size-none, size-one, size-node, size-⧺, count-none, count-one, count-⧺}
 use Rattle.records.specs.Slots.{put, writes}
 use Rattle.records.proofs.Laws.{writes-none, writes-⧺, writes-node}
+use borrow.Author.Tests.{eq-eqb, ne-eqb}
 use Rattle.tokens.specs.declared.Token.{Token}
 use Rattle.trees.specs.Names.{spelled}
-use Rattle.tokens.specs.Token.{tokenAt, isSymbol}
+use Rattle.tokens.specs.Token.{tokenAt, isSymbol, isAt}
 use Rattle.tokens.specs.Ident.{identRefusal}
 use Rattle.tokens.specs.Input.{Input, input, peek}
 use Rattle.steps.specs.declared.Refusal.{Refusal}
@@ -182,6 +183,20 @@ module _ (test : Token → Bool) (tokens text : List ℕ) (end : ℕ) (f g : Rea
   pub second-no : t ≡ secondFor tokens end p → b ≡ test t → b ≡ false → Chained g p l l′ r → Chained (ifSecond (input tokens text end) test f g) p l l′ r
   unfolding ifSecond
   second-no a e c m = agree (λ i. choose (test (tokenAt tokens end (i + 1))) (λ _. f i) (λ _. g i)) g p r l l′ (λ i n k z. rw (second-is i n k z a e, c)) m
+
+-- the same by the kind of the second token
+module _ (tokens text : List ℕ) (end x : ℕ) (f g : Reader) (p r : Parsed) (l l′ : List ℕ) (e : x ≡ secondFor tokens end p .kind) where
+  pub second-at : x ≡ 5 → Chained f p l l′ r → Chained (ifSecond (input tokens text end) isAt f g) p l l′ r
+  unfolding isAt
+  second-at h m = second-yes isAt tokens text end f g p r (secondFor tokens end p) true l l′ refl (sym (eq-eqb (secondFor tokens end p .kind) 5 (sym e ∙ h))) refl m
+
+  pub second-not-at : (x ≡ 5 → ⊥) → Chained g p l l′ r → Chained (ifSecond (input tokens text end) isAt f g) p l l′ r
+  unfolding isAt
+  second-not-at h m = second-no isAt tokens text end f g p r (secondFor tokens end p) false l l′ refl (sym (ne-eqb (secondFor tokens end p .kind) 5 (λ y. h (e ∙ y)))) refl m
+
+-- reading from the same state
+pub by-again : (f : Reader) (p q r : Parsed) (l l′ : List ℕ) → q ≡ p → Chained f q l l′ r → Chained f p l l′ r
+by-again f p q r l l′ e m = subst (λ (x : Parsed). Chained f x l l′ r) e m
 
 pub leaf-here : (tokens text : List ℕ) (end : ℕ) (h : Token → Head) (p r : Parsed) (l l′ : List ℕ) → Leafed (h (tokenFor tokens end p)) p l l′ r → Chained (leaf (input tokens text end) h) p l l′ r
 leaf-here tokens text end h p r l l′ c = leaf-read tokens text end h (h (tokenFor tokens end p)) p r l l′ c refl

@@ -22,7 +22,8 @@ use Rattle.steps.specs.declared.Refusal.{Refusal}
 use Rattle.steps.specs.declared.Parsed.{Parsed}
 use Rattle.steps.specs.declared.Parsed.the-variants.{Accepted, Refused}
 use Rattle.steps.specs.Outcome.{Outcome, accept, refuse, Reader, refusal, before, andThen, _⊳_, nodeOf, parent, bare, leaf, nothing, refuseFrom, refuseAt, flagged, ate, eat, refuseAfter, refusedAs, pragmaRefusal, ifNext, ifSecond, unexpected, expectAt, expect-lparen, expect-rparen, expect-at, expect-word, identAt, nameBy, parseIdent, constRefusal, parseConst}
-use Rattle.steps.specs.Met.{Taken, Met, Chained, ChainedAt, movedTo, moved, inside, At, Ready, Below, Near, Small}
+use Rattle.steps.proofs.StepLaws.{ready-at, ready-below, name-inside, const-inside}
+use Rattle.steps.specs.Met.{Taken, Met, Chained, ChainedAt, movedTo, moved, inside, tokenFor, At, Ready, Below, Near, Small}
 use Rattle.steps.proofs.MetLaws.{plain-at, token}
 
 -- the row ts, read from token i to j: at least u tokens, and 3 records for each of them with c to spare and d too many at most
@@ -214,21 +215,21 @@ pub at-bounded : (s : Input) → Bounded 1 3 0 s (expect-at s)
 at-bounded s = expect-bounded s isAt at-kinded
 
 -- one name
-one-name : (s : Input) (i : ℕ) (t : Token) (range c : ℕ) → i < size s → Sized 1 2 0 s i (identAt t range c i)
+one-name : (s : Input) (i pos range c : ℕ) → i < size s → Sized 1 2 0 s i (identAt pos range c i)
 unfolding identAt
-one-name s i t range c h = go (eqb c 0)
+one-name s i pos range c h = go (eqb c 0)
   where
-    go : (b : Bool) → Sized 1 2 0 s i (pick b (accept (Ident (t .pos) range ▸ ∅) (i + 1)) (refuse (refusal c (t .pos) (i + 1))))
-    go true = sized-leaf s i (head 24 0 (t .pos) range 0) h
-    go false = sized-refuse 1 2 0 s i (refusal c (t .pos) (i + 1))
+    go : (b : Bool) → Sized 1 2 0 s i (pick b (accept (Ident pos range ▸ ∅) (i + 1)) (refuse (refusal c pos (i + 1))))
+    go true = sized-leaf s i (head 24 0 pos range 0) h
+    go false = sized-refuse 1 2 0 s i (refusal c pos (i + 1))
 
 pub name-sized : (s : Input) (judge : List ℕ → ℕ) (range : ℕ → ℕ) (i : ℕ) → Sized 1 2 0 s i (nameBy s judge range i)
 unfolding nameBy
 name-sized s judge range i =
     sized-choose 1 2 0 s i (isSymbol (peek s i))
-    (λ _. identAt (peek s i) (range (peek s i .word1)) (judge (spelled (s .text) (peek s i .word1))) i)
+    (λ _. identAt (peek s i .pos) (range (peek s i .word1)) (judge (spelled (s .text) (peek s i .word1))) i)
     (λ _. refuse (unexpected (peek s i) i))
-    (λ e. one-name s i (peek s i) (range (peek s i .word1)) (judge (spelled (s .text) (peek s i .word1))) (met-there s i isSymbol symbol-kinded e))
+    (λ e. one-name s i (peek s i .pos) (range (peek s i .word1)) (judge (spelled (s .text) (peek s i .word1))) (met-there s i isSymbol symbol-kinded e))
     (λ e. sized-refuse 1 2 0 s i (unexpected (peek s i) i))
 
 pub ident-bounded : (s : Input) → Bounded 1 2 0 s (parseIdent s)
@@ -328,6 +329,9 @@ unfolding Ready Small
 small-ready c s (Accepted i n k) a = omega (arith, a .few, a .here, a .kids)
 small-ready c s (Refused e) a = tt
 
+pub ready-again : (c : ℕ) (s : Input) (p q : Parsed) → q ≡ p → Ready c s p → Ready c s q
+ready-again c s p q e h = subst (λ (x : Parsed). Ready c s x) (sym e) h
+
 pub near-ready : (c : ℕ) (s : Input) (q : Parsed) → Ready c s q → Near q
 unfolding Ready Near
 near-ready c s (Accepted i n k) a = record { at = omega (arith, a .few, a .here); slot = omega (arith, a .few, a .here, a .room, a .slack); row = omega (arith, a .few, a .here, a .kids) }
@@ -403,3 +407,28 @@ pub small-over : (c : ℕ) (f : Reader) (q r : Parsed) (l l′ : List ℕ) (d : 
 unfolding Chained Ready
 small-over c f (Accepted i n k) r l l′ d s p h z b a = over-met c s i n k (f i) l l′ r (b .sized i) a h
 small-over c f (Refused e) r l l′ d s p h z b a = rw h (small-refused e)
+
+pub near-again : (c : ℕ) (s : Input) (p q : Parsed) → q ≡ p → Ready c s p → Near q
+near-again c s p q e h = near-ready c s q (ready-again c s p q e h)
+
+-- the children of a node over one name
+module _ (s : Input) (p q : Parsed) (i n k : ℕ) (h : Ready 3 s p) (a : q ≡ inside p) (b : q ≡ Accepted i n k) where
+  inside-ready : Ready 4 s q
+  inside-ready = ready-inside 3 4 (omega arith) (omega arith) s p q a h
+
+  pub inside-below : Below i n k
+  inside-below = ready-below 4 s q i n k inside-ready b
+
+module _ (tokens text : List ℕ) (end : ℕ) (p q : Parsed) (i n k : ℕ) (h : Ready 3 (input tokens text end) p) (a : q ≡ inside p) (b : q ≡ Accepted i n k) where
+  pub inside-short : length text ≤ 65536
+  inside-short = ready-at 4 (input tokens text end) q i n k (inside-ready (input tokens text end) p q i n k h a b) b .short
+
+  inside-small : (f : Reader) (r : Parsed) (l l′ : List ℕ) → Chained f q l l′ r → Steady (input tokens text end) f → Small r
+  inside-small f r l l′ m g = small-after 4 f q r l l′ 3 (input tokens text end) p m h g (inside-ready (input tokens text end) p q i n k h a b)
+
+  module _ (t : Token) (r : Parsed) (l l′ : List ℕ) (e : t ≡ tokenFor tokens end p) where
+    pub name-small : isSymbol t ≡ true → Met (identAt (t .pos) (t .word1) (identRefusal (spelled text (t .word1))) i) n k l l′ r → Small r
+    name-small v m = inside-small (parseIdent (input tokens text end)) r l l′ (name-inside tokens text end i n k p q r t l l′ e v a b m) (ident-steady (input tokens text end))
+
+    pub const-small : isConst text t ≡ true → Met (identAt (t .pos) (t .word1 + 4294967295) (constRefusal (spelled text (t .word1))) i) n k l l′ r → Small r
+    const-small v m = inside-small (parseConst (input tokens text end)) r l l′ (const-inside tokens text end i n k p q r t l l′ e v a b m) (const-steady (input tokens text end))

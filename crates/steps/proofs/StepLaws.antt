@@ -21,10 +21,10 @@ use Rattle.trees.proofs.Laws.{count-none, count-one, size-one, size-node, size-
 use Rattle.records.specs.Slots.{put, writes}
 use Rattle.records.proofs.Laws.{writes-node, writes-none}
 use Rattle.tokens.specs.declared.Token.{Token}
-use Rattle.tokens.specs.Token.{tokenCount, tokenAt, pastLast, isLparen, isRparen, isSymbol, isAt, isWord}
+use Rattle.tokens.specs.Token.{tokenCount, tokenAt, kindAt, pastLast, isKind, isLparen, isRparen, isSymbol, isAt, isConst, isWord}
 use Rattle.tokens.specs.Ident.{identRefusal}
 use Rattle.tokens.specs.Input.{Input, input, peek}
-use Rattle.tokens.proofs.TokenLaws.{kind-inside, word-kind}
+use Rattle.tokens.proofs.TokenLaws.{kind-inside, kind-is, word-kind}
 use Rattle.steps.specs.declared.Refusal.{Refusal}
 use Rattle.steps.specs.declared.Parsed.{Parsed}
 use Rattle.steps.specs.declared.Parsed.the-variants.{Accepted, Refused}
@@ -32,37 +32,43 @@ use Rattle.steps.proofs.Parsed.{the-type}
 use Rattle.steps.specs.Outcome.{Outcome, accept, refuse, refusal, Reader, refuseFrom, ate, eat, refuseAfter, refusedAs, pragmaRefusal, unexpected, expectAt, identAt, nameBy, parseIdent, constRefusal, parseConst}
 use Rattle.steps.specs.Met.{Taken, Met, Chained, movedTo, moved, inside, Closed, Leafed, tokenFor, secondFor, goesOn, endsAt, At, Ready, Below, Near, Small, Flags}
 
--- ---- a state that is no acceptance
+-- ---- a state that is no acceptance, and the same state made anew
 
-pub stays : (f : ℕ → Outcome) (p : Parsed) (l : List ℕ) → OneOf (1 ∷ []) (tagOf the-type p) → Chained f p l l p
+pub again-accepted : (p : Parsed) (i n k : ℕ) → p ≡ Accepted i n k → Accepted i n k ≡ p
+again-accepted p i n k e = sym e
+
+pub again-refused : (p : Parsed) (e : Refusal) → p ≡ Refused e → Refused (refusal (e .code) (e .place) (e .taken)) ≡ p
+again-refused p e h = sym h
+
+pub stays : (f : ℕ → Outcome) (p r : Parsed) (l : List ℕ) → OneOf (1 ∷ []) (tagOf the-type p) → r ≡ p → Chained f p l l r
 unfolding Chained
-stays f (Accepted i n k) l h = absurd (omega arith)
-stays f (Refused e) l h = refl
+stays f (Accepted i n k) r l h e = absurd (omega arith)
+stays f (Refused d) r l h e = e
 
-pub moved-stays : (f : ℕ → Outcome) (p : Parsed) → OneOf (1 ∷ []) (tagOf the-type p) → p ≡ moved f p
+pub moved-stays : (f : ℕ → Outcome) (p r : Parsed) → OneOf (1 ∷ []) (tagOf the-type p) → r ≡ p → r ≡ moved f p
 unfolding moved
-moved-stays f (Accepted i n k) h = absurd (omega arith)
-moved-stays f (Refused e) h = refl
+moved-stays f (Accepted i n k) r h e = absurd (omega arith)
+moved-stays f (Refused d) r h e = e
 
-pub inside-stays : (p : Parsed) → OneOf (1 ∷ []) (tagOf the-type p) → p ≡ inside p
+pub inside-stays : (p r : Parsed) → OneOf (1 ∷ []) (tagOf the-type p) → r ≡ p → r ≡ inside p
 unfolding inside
-inside-stays (Accepted i n k) h = absurd (omega arith)
-inside-stays (Refused e) h = refl
+inside-stays (Accepted i n k) r h e = absurd (omega arith)
+inside-stays (Refused d) r h e = e
 
-pub closed-outer : (h : Head) (p q : Parsed) (l : List ℕ) → OneOf (1 ∷ []) (tagOf the-type p) → Closed h p q l l p
+pub closed-outer : (h : Head) (p q r : Parsed) (l : List ℕ) → OneOf (1 ∷ []) (tagOf the-type p) → r ≡ p → Closed h p q l l r
 unfolding Closed
-closed-outer h (Accepted i n k) q l o = absurd (omega arith)
-closed-outer h (Refused e) q l o = refl
+closed-outer h (Accepted i n k) q r l o e = absurd (omega arith)
+closed-outer h (Refused d) q r l o e = e
 
-pub closed-inner : (h : Head) (p q : Parsed) (i n k : ℕ) (l : List ℕ) → p ≡ Accepted i n k → OneOf (1 ∷ []) (tagOf the-type q) → Closed h p q l l q
+pub closed-inner : (h : Head) (p q r : Parsed) (i n k : ℕ) (l : List ℕ) → p ≡ Accepted i n k → OneOf (1 ∷ []) (tagOf the-type q) → r ≡ q → Closed h p q l l r
 unfolding Closed
-closed-inner h p (Accepted j m c) i n k l e o = absurd (omega arith)
-closed-inner h p (Refused x) i n k l e o = rw e refl
+closed-inner h p (Accepted j m c) r i n k l e o a = absurd (omega arith)
+closed-inner h p (Refused x) r i n k l e o a = rw e a
 
-pub leafed-stays : (h : Head) (p : Parsed) (l : List ℕ) → OneOf (1 ∷ []) (tagOf the-type p) → Leafed h p l l p
+pub leafed-stays : (h : Head) (p r : Parsed) (l : List ℕ) → OneOf (1 ∷ []) (tagOf the-type p) → r ≡ p → Leafed h p l l r
 unfolding Leafed
-leafed-stays h (Accepted i n k) l o = absurd (omega arith)
-leafed-stays h (Refused e) l o = refl
+leafed-stays h (Accepted i n k) r l o e = absurd (omega arith)
+leafed-stays h (Refused d) r l o e = e
 
 past-token : (tokens : List ℕ) (end : ℕ) (p : Parsed) → OneOf (1 ∷ []) (tagOf the-type p) → pastLast end ≡ tokenFor tokens end p
 unfolding tokenFor
@@ -89,6 +95,22 @@ module _ (tokens : List ℕ) (end : ℕ) (p : Parsed) (t : Token) where
   unfolding secondFor
   second-is i n k e a = a ∙ rw e
 
+-- the kind of the second token alone, the position of the next one alone
+module _ (tokens : List ℕ) (end : ℕ) (p : Parsed) where
+  pub second-kind-past : OneOf (1 ∷ []) (tagOf the-type p) → 0 ≡ secondFor tokens end p .kind
+  second-kind-past o = ap (λ (t : Token). t .kind) (past-second tokens end p o)
+
+  pub second-kind-is : (i n k j x : ℕ) → p ≡ Accepted i n k → j ≡ i + 1 → x ≡ kindAt tokens j → x ≡ secondFor tokens end p .kind
+  unfolding secondFor
+  second-kind-is i n k j x e f a = a ∙ rw (f, e) (kind-is tokens end (i + 1))
+
+  pub pos-past : OneOf (1 ∷ []) (tagOf the-type p) → end ≡ tokenFor tokens end p .pos
+  pos-past o = ap (λ (t : Token). t .pos) (past-token tokens end p o)
+
+  pub pos-is : (i n k x : ℕ) → p ≡ Accepted i n k → x ≡ tokenAt tokens end i .pos → x ≡ tokenFor tokens end p .pos
+  unfolding tokenFor
+  pos-is i n k x e a = a ∙ rw e
+
 pub ends-refused : (stop : ℕ → Bool) (p : Parsed) → OneOf (1 ∷ []) (tagOf the-type p) → false ≡ goesOn stop p
 unfolding goesOn
 ends-refused stop (Accepted i n k) h = absurd (omega arith)
@@ -113,6 +135,18 @@ module _ (tokens : List ℕ) (end i n k : ℕ) (t : Token) (p : Parsed) (test : 
   unfolding moved expectAt movedTo
   expect-refused u e a b c d = rw (d, e, ← a, ← b, c)
 
+module _ (tokens : List ℕ) (end i n k kind x : ℕ) (p : Parsed) where
+  pub kind-met : (j : ℕ) → p ≡ Accepted i n k → x ≡ kindAt tokens i → x ≡ kind → j ≡ i + 1 → Accepted j n k ≡ moved (expectAt tokens end (isKind kind)) p
+  unfolding moved expectAt movedTo isKind
+  kind-met j e a b f = rw (f, e, eq-eqb (tokenAt tokens end i .kind) kind (sym (kind-is tokens end i) ∙ sym a ∙ b))
+
+  pub kind-refused : (t : Token) (u : Refusal) → p ≡ Accepted i n k → x ≡ kindAt tokens i → (x ≡ kind → ⊥) → t ≡ tokenAt tokens end i → u ≡ unexpected t i → Refused u ≡ moved (expectAt tokens end (isKind kind)) p
+  unfolding moved expectAt movedTo isKind
+  kind-refused t u e a b c d = rw (d, c, e, ne-eqb (tokenAt tokens end i .kind) kind (λ g. b (a ∙ kind-is tokens end i ∙ g)))
+
+  pub kind-fits : x ≡ kindAt tokens i → x ≡ kind → 0 < kind → length tokens < 2 ^ 64 → i < 2 ^ 63
+  kind-fits a b z h = omega (arith, kind-inside tokens end i kind (sym (kind-is tokens end i) ∙ sym a ∙ b) z)
+
 -- a token that passes the test of a kind stands inside the list
 next-there : (tokens : List ℕ) (end i k : ℕ) (t : Token) (r : Bool) → t ≡ tokenAt tokens end i → r ≡ eqb (t .kind) k → r ≡ true → 0 < k → length tokens < 2 ^ 64 → i < 2 ^ 63
 next-there tokens end i k t r a b c z h =
@@ -124,20 +158,25 @@ module _ (tokens : List ℕ) (end i : ℕ) (t : Token) (r : Bool) where
   unfolding isLparen
   lparen-fits a b c h = next-there tokens end i 1 t r a b c (omega arith) h
 
-  pub rparen-fits : t ≡ tokenAt tokens end i → r ≡ isRparen t → r ≡ true → length tokens < 2 ^ 64 → i < 2 ^ 63
-  unfolding isRparen
-  rparen-fits a b c h = next-there tokens end i 2 t r a b c (omega arith) h
-
   pub word-fits : (text w : List ℕ) → t ≡ tokenAt tokens end i → r ≡ isWord text w t → r ≡ true → length tokens < 2 ^ 64 → i < 2 ^ 63
   word-fits text w a b c h = next-there tokens end i 3 t true a (sym (eq-eqb (t .kind) 3 (word-kind text w t (sym b ∙ c)))) refl (omega arith) h
 
-  pub at-fits : t ≡ tokenAt tokens end i → r ≡ isAt t → r ≡ true → length tokens < 2 ^ 64 → i < 2 ^ 63
-  unfolding isAt
-  at-fits a b c h = next-there tokens end i 5 t r a b c (omega arith) h
+module _ (tokens : List ℕ) (end : ℕ) (p r : Parsed) where
+  pub expect-lparen-is : r ≡ moved (expectAt tokens end (isKind 1)) p → r ≡ moved (expectAt tokens end isLparen) p
+  unfolding isKind isLparen
+  expect-lparen-is e = e
 
-pub goes-on-is : (tokens : List ℕ) (end i n k : ℕ) (t : Token) (p : Parsed) (r : Bool) → p ≡ Accepted i n k → t ≡ tokenAt tokens end i → r ≡ isRparen t → not r ≡ goesOn (endsAt tokens end) p
-unfolding goesOn
-goes-on-is tokens end i n k t p r e a b = rw (e, ← a, ← b)
+  pub expect-rparen-is : r ≡ moved (expectAt tokens end (isKind 2)) p → r ≡ moved (expectAt tokens end isRparen) p
+  unfolding isKind isRparen
+  expect-rparen-is e = e
+
+  pub expect-at-is : r ≡ moved (expectAt tokens end (isKind 5)) p → r ≡ moved (expectAt tokens end isAt) p
+  unfolding isKind isAt
+  expect-at-is e = e
+
+pub goes-on-is : (tokens : List ℕ) (end i n k x : ℕ) (p : Parsed) → p ≡ Accepted i n k → x ≡ kindAt tokens i → not (eqb x 2) ≡ goesOn (endsAt tokens end) p
+unfolding goesOn isRparen
+goes-on-is tokens end i n k x p e a = rw (e, a, kind-is tokens end i)
 
 -- ---- names
 
@@ -153,14 +192,14 @@ pub const-plain : (s : List ℕ) (c x : ℕ) → c ≡ identRefusal s → c ≡ 
 unfolding constRefusal
 const-plain s c x e h f g = rw (← e, eq-eqb c 0 h, ← f, ne-eqb x 36 g)
 
-pub ident-refused : (t : Token) (range c i n k j : ℕ) (l : List ℕ) → j ≡ i + 1 → (c ≡ 0 → ⊥) → Met (identAt t range c i) n k l l (Refused (refusal c (t .pos) j))
+pub ident-refused : (pos range c i n k j : ℕ) (l : List ℕ) → j ≡ i + 1 → (c ≡ 0 → ⊥) → Met (identAt pos range c i) n k l l (Refused (refusal c pos j))
 unfolding Met identAt
-ident-refused t range c i n k j l f h = rw (f, ne-eqb c 0 h) refl
+ident-refused pos range c i n k j l f h = rw (f, ne-eqb c 0 h) refl
 
-pub ident-put : (t : Token) (range c i n k j m : ℕ) (l l′ : List ℕ) → j ≡ i + 1 → m ≡ n + 1 → c ≡ 0 → l′ ≡ put l n (recordOf (head 24 0 (t .pos) range 0) 0) → Met (identAt t range c i) n k l l′ (Accepted j m (k + 1))
+pub ident-put : (pos range c i n k j m : ℕ) (l l′ : List ℕ) → j ≡ i + 1 → m ≡ n + 1 → c ≡ 0 → l′ ≡ put l n (recordOf (head 24 0 pos range 0) 0) → Met (identAt pos range c i) n k l l′ (Accepted j m (k + 1))
 unfolding Met identAt
-ident-put t range c i n k j m l l′ f g h e =
-    let name = head 24 0 (t .pos) range 0 in
+ident-put pos range c i n k j m l l′ f g h e =
+    let name = head 24 0 pos range 0 in
     rw (eq-eqb c 0 h)
     (record {
       ends = f;
@@ -170,7 +209,7 @@ ident-put t range c i n k j m l l′ f g h e =
     })
 
 module _ (s : Input) (judge : List ℕ → ℕ) (range : ℕ → ℕ) (f : ℕ → Outcome) (is : (j : ℕ) → f j ≡ nameBy s judge range j) (i n k : ℕ) (p : Parsed) (t : Token) (r : Bool) (l : List ℕ) where
-  by-name : (l′ : List ℕ) (b : List ℕ) (c : ℕ) (x : Parsed) → p ≡ Accepted i n k → t ≡ peek s i → r ≡ isSymbol t → r ≡ true → b ≡ spelled (s .text) (t .word1) → c ≡ judge b → Met (identAt t (range (t .word1)) c i) n k l l′ x → Chained f p l l′ x
+  by-name : (l′ : List ℕ) (b : List ℕ) (c : ℕ) (x : Parsed) → p ≡ Accepted i n k → t ≡ peek s i → r ≡ isSymbol t → r ≡ true → b ≡ spelled (s .text) (t .word1) → c ≡ judge b → Met (identAt (t .pos) (range (t .word1)) c i) n k l l′ x → Chained f p l l′ x
   unfolding Chained nameBy
   by-name l′ b c x e a q v d j m = rw (e, is i, ← a, ← q, v, ← d, ← j) m
 
@@ -186,24 +225,45 @@ const-is : (s : Input) (j : ℕ) → parseConst s j ≡ nameBy s constRefusal (�
 unfolding parseConst
 const-is s j = refl
 
-module _ (tokens text : List ℕ) (end i n k : ℕ) (p : Parsed) (t : Token) (r : Bool) (l : List ℕ) where
-  pub ident-read : (l′ : List ℕ) (b : List ℕ) (c : ℕ) (x : Parsed) → p ≡ Accepted i n k → t ≡ tokenAt tokens end i → r ≡ isSymbol t → r ≡ true → b ≡ spelled text (t .word1) → c ≡ identRefusal b → Met (identAt t (t .word1) c i) n k l l′ x → Chained (parseIdent (input tokens text end)) p l l′ x
-  ident-read = by-name (input tokens text end) identRefusal (λ w. w) (parseIdent (input tokens text end)) (ident-is (input tokens text end)) i n k p t r l
+module _ (tokens text : List ℕ) (end i n k : ℕ) (p : Parsed) (t : Token) (l : List ℕ) where
+  pub ident-named : (l′ : List ℕ) (x : Parsed) → p ≡ Accepted i n k → t ≡ tokenAt tokens end i → isSymbol t ≡ true → Met (identAt (t .pos) (t .word1) (identRefusal (spelled text (t .word1))) i) n k l l′ x → Chained (parseIdent (input tokens text end)) p l l′ x
+  ident-named l′ x e a v m =
+      by-name (input tokens text end) identRefusal (λ w. w) (parseIdent (input tokens text end)) (ident-is (input tokens text end)) i n k p t true l l′ (spelled text (t .word1)) (identRefusal (spelled text (t .word1))) x e a (sym v) refl refl refl m
 
-  pub ident-other : (u : Refusal) → p ≡ Accepted i n k → t ≡ tokenAt tokens end i → r ≡ isSymbol t → r ≡ false → u ≡ unexpected t i → Chained (parseIdent (input tokens text end)) p l l (Refused u)
-  ident-other = by-other (input tokens text end) identRefusal (λ w. w) (parseIdent (input tokens text end)) (ident-is (input tokens text end)) i n k p t r l
+  pub const-named : (l′ : List ℕ) (x : Parsed) → p ≡ Accepted i n k → t ≡ tokenAt tokens end i → isSymbol t ≡ true → Met (identAt (t .pos) (t .word1 + 4294967295) (constRefusal (spelled text (t .word1))) i) n k l l′ x → Chained (parseConst (input tokens text end)) p l l′ x
+  const-named l′ x e a v m =
+      by-name (input tokens text end) constRefusal (λ w. w + 4294967295) (parseConst (input tokens text end)) (const-is (input tokens text end)) i n k p t true l l′ (spelled text (t .word1)) (constRefusal (spelled text (t .word1))) x e a (sym v) refl refl refl m
 
-  pub const-read : (l′ : List ℕ) (b : List ℕ) (c : ℕ) (x : Parsed) → p ≡ Accepted i n k → t ≡ tokenAt tokens end i → r ≡ isSymbol t → r ≡ true → b ≡ spelled text (t .word1) → c ≡ constRefusal b → c ≡ 0 → Met (identAt t (t .word1 + 4294967295) 0 i) n k l l′ x → Chained (parseConst (input tokens text end)) p l l′ x
-  const-read l′ b c x e a q v d j z m =
-      by-name (input tokens text end) constRefusal (λ w. w + 4294967295) (parseConst (input tokens text end)) (const-is (input tokens text end)) i n k p t r l l′ b c x e a q v d j (rw z m)
+  pub ident-other : (r : Bool) (u : Refusal) → p ≡ Accepted i n k → t ≡ tokenAt tokens end i → r ≡ isSymbol t → r ≡ false → u ≡ unexpected t i → Chained (parseIdent (input tokens text end)) p l l (Refused u)
+  ident-other r = by-other (input tokens text end) identRefusal (λ w. w) (parseIdent (input tokens text end)) (ident-is (input tokens text end)) i n k p t r l
 
-  pub const-refused : (b : List ℕ) (c j : ℕ) → p ≡ Accepted i n k → t ≡ tokenAt tokens end i → r ≡ isSymbol t → r ≡ true → b ≡ spelled text (t .word1) → c ≡ constRefusal b → (c ≡ 0 → ⊥) → j ≡ i + 1 → Chained (parseConst (input tokens text end)) p l l (Refused (refusal c (t .pos) j))
-  const-refused b c j e a q v d g z f =
-      by-name (input tokens text end) constRefusal (λ w. w + 4294967295) (parseConst (input tokens text end)) (const-is (input tokens text end)) i n k p t r l l b c (Refused (refusal c (t .pos) j)) e a q v d g
-      (ident-refused t (t .word1 + 4294967295) c i n k j l f z)
+  pub const-other : (r : Bool) (u : Refusal) → p ≡ Accepted i n k → t ≡ tokenAt tokens end i → r ≡ isSymbol t → r ≡ false → u ≡ unexpected t i → Chained (parseConst (input tokens text end)) p l l (Refused u)
+  const-other r = by-other (input tokens text end) constRefusal (λ w. w + 4294967295) (parseConst (input tokens text end)) (const-is (input tokens text end)) i n k p t r l
 
-  pub const-other : (u : Refusal) → p ≡ Accepted i n k → t ≡ tokenAt tokens end i → r ≡ isSymbol t → r ≡ false → u ≡ unexpected t i → Chained (parseConst (input tokens text end)) p l l (Refused u)
-  const-other = by-other (input tokens text end) constRefusal (λ w. w + 4294967295) (parseConst (input tokens text end)) (const-is (input tokens text end)) i n k p t r l
+-- what a test has told
+pub told : (t : Token) (r : Bool) → r ≡ isSymbol t → r ≡ true → isSymbol t ≡ true
+told t r e h = sym e ∙ h
+
+pub const-tested : (text : List ℕ) (t : Token) (r : Bool) → r ≡ isConst text t → r ≡ true → isConst text t ≡ true
+const-tested text t r e h = sym e ∙ h
+
+pub const-told : (text : List ℕ) (t : Token) → isConst text t ≡ true → isSymbol t ≡ true
+unfolding isConst isSymbol
+const-told text t e = go (eqb (t .kind) 3) refl e
+  where
+    go : (b : Bool) → eqb (t .kind) 3 ≡ b → pick b (eqb (getD (spelled text (t .word1)) 0 0) 36) false ≡ true → eqb (t .kind) 3 ≡ true
+    go true q h = q
+    go false q h = let z : _≡_ {A = ℕ} 0 1 = cc in absurd (omega arith)
+
+module _ (text : List ℕ) (pos range i n k : ℕ) (b : List ℕ) (c : ℕ) (l : List ℕ) (e : b ≡ spelled text range) where
+  pub name-put : (l′ : List ℕ) (x : Parsed) → c ≡ identRefusal b → Met (identAt pos range c i) n k l l′ x → Met (identAt pos range (identRefusal (spelled text range)) i) n k l l′ x
+  name-put l′ x f m = rw (f, e) at m
+
+  pub const-put : (l′ : List ℕ) (x : Parsed) → c ≡ constRefusal b → c ≡ 0 → Met (identAt pos (range + 4294967295) 0 i) n k l l′ x → Met (identAt pos (range + 4294967295) (constRefusal (spelled text range)) i) n k l l′ x
+  const-put l′ x f z m = rw (← e, ← f, z) m
+
+  pub const-out : (j : ℕ) → c ≡ constRefusal b → (c ≡ 0 → ⊥) → j ≡ i + 1 → Met (identAt pos (range + 4294967295) (constRefusal (spelled text range)) i) n k l l (Refused (refusal c pos j))
+  const-out j f z g = rw (← e, ← f) (ident-refused pos (range + 4294967295) c i n k j l g z)
 
 -- what a state is known to be within
 pub ready-at : (c : ℕ) (s : Input) (p : Parsed) (i n k : ℕ) → Ready c s p → p ≡ Accepted i n k → At c s i n k
@@ -235,18 +295,28 @@ const-first b e = go (eqb (identRefusal b) 0) (eqb (getD b 0 0) 36) refl refl e
     go true false p q h = absurd (omega arith)
     go false v p q h = let z : eqb (identRefusal b) 0 ≡ true = eq-eqb (identRefusal b) 0 h in let y : _≡_ {A = ℕ} 0 1 = cc in absurd (omega arith)
 
-pub const-fits : (c : ℕ) (s : Input) (p : Parsed) (i n k : ℕ) (b : List ℕ) (d w : ℕ) → Ready c s p → p ≡ Accepted i n k → b ≡ spelled (s .text) w → d ≡ constRefusal b → d ≡ 0 → Fits w64 (w + 4294967295)
+pub const-fits : (text b : List ℕ) (d w : ℕ) → length text ≤ 65536 → b ≡ spelled text w → d ≡ constRefusal b → d ≡ 0 → Fits w64 (w + 4294967295)
 unfolding spelled
-const-fits c s p i n k b d w h e f g z =
-    let a = ready-at c s p i n k h e in
-    let first : getD (take (w % 4294967296) (drop (w / 4294967296) (s .text))) 0 0 ≡ 36 = rw f at (const-first b (sym g ∙ z)) in
-    omega (arith, a .short, starts-inside (s .text) (w / 4294967296) (w % 4294967296) 0 first)
+const-fits text b d w h f g z =
+    let first : getD (take (w % 4294967296) (drop (w / 4294967296) text)) 0 0 ≡ 36 = rw f at (const-first b (sym g ∙ z)) in
+    omega (arith, h, starts-inside text (w / 4294967296) (w % 4294967296) 0 first)
+
+pub below-next : (i n k : ℕ) → Below i n k → i < 2 ^ 63
+below-next i n k h = omega (arith, h .at)
+
+pub ready-short : (c : ℕ) (tokens text : List ℕ) (end : ℕ) (p : Parsed) (i n k : ℕ) → Ready c (input tokens text end) p → p ≡ Accepted i n k → length text ≤ 65536
+ready-short c tokens text end p i n k h e = ready-at c (input tokens text end) p i n k h e .short
 
 -- ---- nodes
 
 pub inside-is : (p : Parsed) (i n k : ℕ) → p ≡ Accepted i n k → Accepted i (n + 1) 0 ≡ inside p
 unfolding inside
 inside-is p i n k e = rw e
+
+pub node-stays : (f : ℕ → Outcome) (p q r : Parsed) (l : List ℕ) → q ≡ inside p → OneOf (1 ∷ []) (tagOf the-type q) → r ≡ q → Chained f p l l r
+unfolding Chained inside
+node-stays f (Accepted i n k) q r l e o a = let z : OneOf (1 ∷ []) (tagOf the-type (Accepted i (n + 1) 0)) = subst (λ (x : Parsed). OneOf (1 ∷ []) (tagOf the-type x)) e o in absurd (omega arith)
+node-stays f (Refused d) q r l e o a = a ∙ e
 
 pub closed-put : (h : Head) (p q : Parsed) (l l′ : List ℕ) (i n k j m c : ℕ) → p ≡ Accepted i n k → q ≡ Accepted j m c → l′ ≡ put l n (recordOf h c) → Closed h p q l l′ (Accepted j m (k + 1))
 unfolding Closed
@@ -269,6 +339,16 @@ pub token-inside : (tokens : List ℕ) (end : ℕ) (t : Token) (p q : Parsed) �
 unfolding tokenFor inside
 token-inside tokens end t (Accepted i n k) q e a = e ∙ sym (ap (tokenFor tokens end) a)
 token-inside tokens end t (Refused d) q e a = e ∙ sym (ap (tokenFor tokens end) a)
+
+module _ (tokens text : List ℕ) (end i n k : ℕ) (p q r : Parsed) (t : Token) (l l′ : List ℕ) where
+  pub name-inside : t ≡ tokenFor tokens end p → isSymbol t ≡ true → q ≡ inside p → q ≡ Accepted i n k → Met (identAt (t .pos) (t .word1) (identRefusal (spelled text (t .word1))) i) n k l l′ r → Chained (parseIdent (input tokens text end)) q l l′ r
+  name-inside e v a b m = ident-named tokens text end i n k q t l l′ r b (token-here tokens end i n k t q (token-inside tokens end t p q e a) b) v m
+
+  pub const-inside : t ≡ tokenFor tokens end p → isConst text t ≡ true → q ≡ inside p → q ≡ Accepted i n k → Met (identAt (t .pos) (t .word1 + 4294967295) (constRefusal (spelled text (t .word1))) i) n k l l′ r → Chained (parseConst (input tokens text end)) q l l′ r
+  const-inside e v a b m = const-named tokens text end i n k q t l l′ r b (token-here tokens end i n k t q (token-inside tokens end t p q e a) b) (const-told text t v) m
+
+pub closed-by : (tokens : List ℕ) (end kind flags x : ℕ) (p q r : Parsed) (l l′ : List ℕ) → x ≡ tokenFor tokens end p .pos → Closed (head kind flags x 0 0) p q l l′ r → Closed (head kind flags (tokenFor tokens end p .pos) 0 0) p q l l′ r
+closed-by tokens end kind flags x p q r l l′ e c = rw e at c
 
 pub closed-at : (tokens : List ℕ) (end kind flags : ℕ) (t : Token) (p q r : Parsed) (l l′ : List ℕ) → t ≡ tokenFor tokens end p → Closed (head kind flags (t .pos) 0 0) p q l l′ r → Closed (head kind flags (tokenFor tokens end p .pos) 0 0) p q l l′ r
 closed-at tokens end kind flags t p q r l l′ e c = rw e at c
@@ -364,7 +444,7 @@ unfolding refusedAs
 as-code code s c e h = rw (← e, ne-eqb c 0 h)
 
 module _ (tokens text : List ℕ) (end code i n k : ℕ) (p : Parsed) (t : Token) (r : Bool) (l : List ℕ) where
-  pub other-read : (l′ : List ℕ) (b : List ℕ) (c : ℕ) (x : Parsed) → p ≡ Accepted i n k → t ≡ tokenAt tokens end i → r ≡ isSymbol t → r ≡ true → b ≡ spelled text (t .word1) → c ≡ refusedAs code b → Met (identAt t (t .word1) c i) n k l l′ x → Chained (nameBy (input tokens text end) (refusedAs code) (λ w. w)) p l l′ x
+  pub other-read : (l′ : List ℕ) (b : List ℕ) (c : ℕ) (x : Parsed) → p ≡ Accepted i n k → t ≡ tokenAt tokens end i → r ≡ isSymbol t → r ≡ true → b ≡ spelled text (t .word1) → c ≡ refusedAs code b → Met (identAt (t .pos) (t .word1) c i) n k l l′ x → Chained (nameBy (input tokens text end) (refusedAs code) (λ w. w)) p l l′ x
   other-read = by-name (input tokens text end) (refusedAs code) (λ w. w) (nameBy (input tokens text end) (refusedAs code) (λ w. w)) (λ j. refl) i n k p t r l
 
   pub other-other : (u : Refusal) → p ≡ Accepted i n k → t ≡ tokenAt tokens end i → r ≡ isSymbol t → r ≡ false → u ≡ unexpected t i → Chained (nameBy (input tokens text end) (refusedAs code) (λ w. w)) p l l (Refused u)
@@ -394,7 +474,7 @@ unfolding pragmaRefusal
 bad-pragma s c e h = rw (← e, ne-eqb c 0 h)
 
 module _ (tokens text : List ℕ) (end i n k : ℕ) (p : Parsed) (t : Token) (r : Bool) (l : List ℕ) where
-  pub pragma-read : (l′ : List ℕ) (b : List ℕ) (c : ℕ) (x : Parsed) → p ≡ Accepted i n k → t ≡ tokenAt tokens end i → r ≡ isSymbol t → r ≡ true → b ≡ spelled text (t .word1) → c ≡ pragmaRefusal b → Met (identAt t (t .word1) c i) n k l l′ x → Chained (nameBy (input tokens text end) pragmaRefusal (λ w. w)) p l l′ x
+  pub pragma-read : (l′ : List ℕ) (b : List ℕ) (c : ℕ) (x : Parsed) → p ≡ Accepted i n k → t ≡ tokenAt tokens end i → r ≡ isSymbol t → r ≡ true → b ≡ spelled text (t .word1) → c ≡ pragmaRefusal b → Met (identAt (t .pos) (t .word1) c i) n k l l′ x → Chained (nameBy (input tokens text end) pragmaRefusal (λ w. w)) p l l′ x
   pragma-read = by-name (input tokens text end) pragmaRefusal (λ w. w) (nameBy (input tokens text end) pragmaRefusal (λ w. w)) (λ j. refl) i n k p t r l
 
   pub pragma-other : (u : Refusal) → p ≡ Accepted i n k → t ≡ tokenAt tokens end i → r ≡ isSymbol t → r ≡ false → u ≡ unexpected t i → Chained (nameBy (input tokens text end) pragmaRefusal (λ w. w)) p l l (Refused u)

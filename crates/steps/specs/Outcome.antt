@@ -145,15 +145,15 @@ refuseAfter s kind code = λ i.
     (λ _. refuse (refusal code (posAt s i) (i + 1)))
     (λ _. refuse (unexpected (peek s i) i))
 
--- the token t at index i as an Ident of this range, or the refusal c where that is not 0
-unfoldable pub identAt : Token → ℕ → ℕ → Reader
-identAt t range c i = pick (eqb c 0) (accept (Ident (t .pos) range ▸ ∅) (i + 1)) (refuse (refusal c (t .pos) (i + 1)))
+-- the token at index i, which stands at pos, as an Ident of this range, or the refusal c where that is not 0
+unfoldable pub identAt : ℕ → ℕ → ℕ → Reader
+identAt pos range c i = pick (eqb c 0) (accept (Ident pos range ▸ ∅) (i + 1)) (refuse (refusal c pos (i + 1)))
 
 -- a symbol, of which `judge` tells the refusal (0 none) and `range` the part that is the name
 unfoldable pub nameBy : Input → (List ℕ → ℕ) → (ℕ → ℕ) → Reader
 nameBy s judge range i =
     choose (isSymbol (peek s i))
-    (λ _. identAt (peek s i) (range (peek s i .word1)) (judge (spelled (s .text) (peek s i .word1))) i)
+    (λ _. identAt (peek s i .pos) (range (peek s i .word1)) (judge (spelled (s .text) (peek s i .word1))) i)
     (λ _. refuse (unexpected (peek s i) i))
 
 unfoldable pub parseIdent : Input → Reader

@@ -5,16 +5,21 @@ use reader::peek;
 use reader::peek_second;
 use tally::emit_at;
 use tokens::Token;
+use tokens::kind_at;
 use tokens::names::first_byte;
 use tokens::names::ident_refusal;
 use tokens::names::spelling;
+use tokens::pos_at;
 use trees::Head;
 use trees::Rec;
 ghost use mathlib.Core.Path.{_≡_};
 ghost use Prim.Native.Nat.{ℕ, _+_, _-_, _*_, _/_, _≤_, _<_};
 ghost use lib.ListN.{length};
+ghost use mathlib.Core.Bool.{true};
+ghost use Rattle.trees.specs.Names.{spelled};
 ghost use Rattle.trees.specs.Tree.{head};
-ghost use Rattle.tokens.specs.Token.{tokenAt, pastLast, isLparen, isRparen, isAt, isWord};
+ghost use Rattle.tokens.specs.Token.{tokenAt, kindAt, pastLast, isKind, isLparen, isRparen, isSymbol, isAt, isConst, isWord};
+ghost use Rattle.tokens.specs.Ident.{identRefusal};
 ghost use Rattle.tokens.specs.Input.{Input, input};
 ghost use Rattle.steps.specs.Outcome.{parent, row, ate, eat, nameBy, refusedAs, pragmaRefusal, refuseAfter, unexpected, expectAt, refuseFrom, constRefusal, identAt, parseIdent, parseConst};
 ghost use Rattle.steps.specs.Met.{Met, Chained, moved, inside, Closed, Leafed, tokenFor, secondFor, goesOn, endsAt, Ready, Below, Near, Small, Flags};
@@ -36,6 +41,24 @@ pub enum Parsed {
     Refused(Refusal),
 }
 
+// The same state, made anew field by field: one that is copied whole goes through memory, in pieces that do not fit how it was written.
+pub fn again(p: Parsed) -> Parsed
+    ensures { λ r. ⌜ r ≡ p ⌝ }
+{
+    match p {
+        Parsed::Accepted { next, count, items } => {
+            return Parsed::Accepted { next, count, items };
+        }
+        Parsed::Refused(e) => {
+            return Parsed::Refused(Refusal {
+                code: e.code,
+                place: e.place,
+                taken: e.taken,
+            });
+        }
+    }
+}
+
 // The refusal of the token t at an index where another is expected.
 fn unexpected(t: Token, at: usize) -> Refusal
     ensures { λ r. ⌜ r ≡ unexpected t at ⌝ }
@@ -54,31 +77,39 @@ fn unexpected(t: Token, at: usize) -> Refusal
     }
 }
 
-pub fn expect_lparen(tokens: &[u8], end: u32, p: Parsed) -> Parsed
-    ensures { λ r. ⌜ r ≡ moved (expectAt (now (tokens .entry)) end isLparen) p ⌝ }
+// A token of this kind, passed.
+fn expect_kind(tokens: &[u8], end: u32, p: Parsed, kind: u8) -> Parsed
+    requires { ⌜ 0 < kind ⌝ }
+    ensures { λ r. ⌜ r ≡ moved (expectAt (now (tokens .entry)) end (isKind kind)) p ⌝ }
 {
     let Parsed::Accepted { next, count, items } = p else {
-        return p;
+        return again(p);
     };
-    let t = peek(tokens, end, next);
-    if t.is_lparen() {
+    if kind_at(tokens, next) == kind {
         return Parsed::Accepted {
             next: after(tokens, next),
             count,
             items,
         };
     }
+    let t = peek(tokens, end, next);
     Parsed::Refused(unexpected(t, next))
 }
 
-// The same by the next token t, which its caller has read already.
+pub fn expect_lparen(tokens: &[u8], end: u32, p: Parsed) -> Parsed
+    ensures { λ r. ⌜ r ≡ moved (expectAt (now (tokens .entry)) end isLparen) p ⌝ }
+{
+    expect_kind(tokens, end, p, Token::LPAREN)
+}
+
+// expect_lparen by the next token t, which its caller has read already.
 pub fn expect_lparen_of(tokens: &[u8], end: u32, p: Parsed, t: Token) -> Parsed
     requires { ⌜ Near p ⌝ }
     requires { ⌜ t ≡ tokenFor (now tokens) end p ⌝ }
     ensures { λ r. ⌜ r ≡ moved (expectAt (now (tokens .entry)) end isLparen) p ⌝ }
 {
     let Parsed::Accepted { next, count, items } = p else {
-        return p;
+        return again(p);
     };
     if t.is_lparen() {
         return Parsed::Accepted {
@@ -93,35 +124,13 @@ pub fn expect_lparen_of(tokens: &[u8], end: u32, p: Parsed, t: Token) -> Parsed
 pub fn expect_rparen(tokens: &[u8], end: u32, p: Parsed) -> Parsed
     ensures { λ r. ⌜ r ≡ moved (expectAt (now (tokens .entry)) end isRparen) p ⌝ }
 {
-    let Parsed::Accepted { next, count, items } = p else {
-        return p;
-    };
-    let t = peek(tokens, end, next);
-    if t.is_rparen() {
-        return Parsed::Accepted {
-            next: after(tokens, next),
-            count,
-            items,
-        };
-    }
-    Parsed::Refused(unexpected(t, next))
+    expect_kind(tokens, end, p, Token::RPAREN)
 }
 
 pub fn expect_at(tokens: &[u8], end: u32, p: Parsed) -> Parsed
     ensures { λ r. ⌜ r ≡ moved (expectAt (now (tokens .entry)) end isAt) p ⌝ }
 {
-    let Parsed::Accepted { next, count, items } = p else {
-        return p;
-    };
-    let t = peek(tokens, end, next);
-    if t.is_at() {
-        return Parsed::Accepted {
-            next: after(tokens, next),
-            count,
-            items,
-        };
-    }
-    Parsed::Refused(unexpected(t, next))
+    expect_kind(tokens, end, p, Token::AT)
 }
 
 // eat_sym_str of the Rust, where the symbol w is known to stand.
@@ -129,9 +138,28 @@ pub fn expect_word(tokens: &[u8], text: &[u8], end: u32, p: Parsed, w: &[u8]) ->
     ensures { λ r. ⌜ r ≡ moved (expectAt (now (tokens .entry)) end (isWord (now (text .entry)) (now (w .entry)))) p ⌝ }
 {
     let Parsed::Accepted { next, count, items } = p else {
-        return p;
+        return again(p);
     };
     let t = peek(tokens, end, next);
+    if t.is_word(text, w) {
+        return Parsed::Accepted {
+            next: after(tokens, next),
+            count,
+            items,
+        };
+    }
+    Parsed::Refused(unexpected(t, next))
+}
+
+// The same by the next token t.
+pub fn expect_word_of(tokens: &[u8], text: &[u8], end: u32, p: Parsed, w: &[u8], t: Token) -> Parsed
+    requires { ⌜ Near p ⌝ }
+    requires { ⌜ t ≡ tokenFor (now tokens) end p ⌝ }
+    ensures { λ r. ⌜ r ≡ moved (expectAt (now (tokens .entry)) end (isWord (now (text .entry)) (now (w .entry)))) p ⌝ }
+{
+    let Parsed::Accepted { next, count, items } = p else {
+        return again(p);
+    };
     if t.is_word(text, w) {
         return Parsed::Accepted {
             next: after(tokens, next),
@@ -163,6 +191,27 @@ pub fn second_token(tokens: &[u8], end: u32, p: Parsed) -> Token
     peek_second(tokens, end, next)
 }
 
+// The kind of the token after the next one.
+pub fn second_kind(tokens: &[u8], end: u32, p: Parsed) -> u8
+    requires { ⌜ Near p ⌝ }
+    ensures { λ r. ⌜ r ≡ secondFor (now (tokens .entry)) end p .kind ⌝ }
+{
+    let Parsed::Accepted { next, count: _, items: _ } = p else {
+        return Token::NONE;
+    };
+    kind_at(tokens, after(tokens, next))
+}
+
+// The position of the next token.
+fn next_pos(tokens: &[u8], end: u32, p: Parsed) -> u32
+    ensures { λ r. ⌜ r ≡ tokenFor (now (tokens .entry)) end p .pos ⌝ }
+{
+    let Parsed::Accepted { next, count: _, items: _ } = p else {
+        return end;
+    };
+    pos_at(tokens, end, next)
+}
+
 fn past_last(end: u32) -> Token
     ensures { λ r. ⌜ r ≡ pastLast end ⌝ }
 {
@@ -181,8 +230,7 @@ pub fn goes_on(tokens: &[u8], end: u32, p: Parsed) -> bool
     let Parsed::Accepted { next, count: _, items: _ } = p else {
         return false;
     };
-    let t = peek(tokens, end, next);
-    !t.is_rparen()
+    kind_at(tokens, next) != Token::RPAREN
 }
 
 // 0 where s is an identifier that starts with `$`, and otherwise the refusal.
@@ -199,25 +247,25 @@ fn const_refusal(s: &[u8]) -> u8
     16
 }
 
-// The Ident of the token t at an index, at slot n after `items` trees of its row; or the refusal c where that is not 0.
+// The Ident of the token at an index, which stands at pos, at slot n after `items` trees of its row; or the refusal c where that is not 0.
 fn put_ident(
     tokens: &[u8],
     out: &mut [u8],
     at: usize,
     n: usize,
     items: usize,
-    t: Token,
+    pos: u32,
     range: u64,
     c: u8,
 ) -> Parsed
     requires { ⌜ Below at n items ⌝ }
-    ensures { λ r. ⌜ Met (identAt t range c at) n items (now (out .entry)) (now (out .exit)) r ⌝ }
+    ensures { λ r. ⌜ Met (identAt pos range c at) n items (now (out .entry)) (now (out .exit)) r ⌝ }
 {
     let next = after(tokens, at);
     if c != 0 {
         return Parsed::Refused(Refusal {
             code: c,
-            place: t.pos,
+            place: pos,
             taken: next,
         });
     }
@@ -228,7 +276,7 @@ fn put_ident(
             kind: Head::IDENT,
             flags: 0,
             count: 0,
-            pos: t.pos,
+            pos,
             word1: range,
             word2: 0,
         },
@@ -238,6 +286,50 @@ fn put_ident(
         count,
         items: items + 1,
     }
+}
+
+// The same of a symbol: the refusal is what its spelling tells.
+fn put_name(
+    tokens: &[u8],
+    text: &[u8],
+    out: &mut [u8],
+    at: usize,
+    n: usize,
+    items: usize,
+    pos: u32,
+    range: u64,
+) -> Parsed
+    requires { ⌜ Below at n items ⌝ }
+    ensures { λ r. ⌜ Met (identAt pos range (identRefusal (spelled (now (text .entry)) range)) at) n items (now (out .entry)) (now (out .exit)) r ⌝ }
+{
+    let c = ident_refusal(spelling(text, range));
+    put_ident(tokens, out, at, n, items, pos, range, c)
+}
+
+// The same of a constant, without its `$`.
+fn put_const(
+    tokens: &[u8],
+    text: &[u8],
+    out: &mut [u8],
+    at: usize,
+    n: usize,
+    items: usize,
+    pos: u32,
+    range: u64,
+) -> Parsed
+    requires { ⌜ Below at n items ⌝ }
+    requires { ⌜ length (now text) ≤ 65536 ⌝ }
+    ensures { λ r. ⌜ Met (identAt pos (range + 4294967295) (constRefusal (spelled (now (text .entry)) range)) at) n items (now (out .entry)) (now (out .exit)) r ⌝ }
+{
+    let c = const_refusal(spelling(text, range));
+    if c == 0 {
+        return put_ident(tokens, out, at, n, items, pos, range + 4294967295, 0);
+    }
+    Parsed::Refused(Refusal {
+        code: c,
+        place: pos,
+        taken: after(tokens, at),
+    })
 }
 
 pub fn parse_ident(tokens: &[u8], text: &[u8], end: u32, out: &mut [u8], p: Parsed) -> Parsed
@@ -255,11 +347,10 @@ fn ident_of(tokens: &[u8], text: &[u8], end: u32, out: &mut [u8], p: Parsed, t: 
     ensures { λ r. ⌜ Chained (parseIdent (input (now (tokens .entry)) (now (text .entry)) end)) p (now (out .entry)) (now (out .exit)) r ⌝ }
 {
     let Parsed::Accepted { next, count, items } = p else {
-        return p;
+        return again(p);
     };
     if t.is_symbol() {
-        let c = ident_refusal(spelling(text, t.word1));
-        return put_ident(tokens, out, next, count, items, t, t.word1, c);
+        return put_name(tokens, text, out, next, count, items, t.pos, t.word1);
     }
     Parsed::Refused(unexpected(t, next))
 }
@@ -270,19 +361,11 @@ pub fn parse_const(tokens: &[u8], text: &[u8], end: u32, out: &mut [u8], p: Pars
     ensures { λ r. ⌜ Chained (parseConst (input (now (tokens .entry)) (now (text .entry)) end)) p (now (out .entry)) (now (out .exit)) r ⌝ }
 {
     let Parsed::Accepted { next, count, items } = p else {
-        return p;
+        return again(p);
     };
     let t = peek(tokens, end, next);
     if t.is_symbol() {
-        let c = const_refusal(spelling(text, t.word1));
-        if c == 0 {
-            return put_ident(tokens, out, next, count, items, t, t.word1 + 4294967295, 0);
-        }
-        return Parsed::Refused(Refusal {
-            code: c,
-            place: t.pos,
-            taken: after(tokens, next),
-        });
+        return put_const(tokens, text, out, next, count, items, t.pos, t.word1);
     }
     Parsed::Refused(unexpected(t, next))
 }
@@ -293,7 +376,7 @@ pub fn inside(p: Parsed) -> Parsed
     ensures { λ r. ⌜ r ≡ inside p ⌝ }
 {
     let Parsed::Accepted { next, count, items: _ } = p else {
-        return p;
+        return again(p);
     };
     Parsed::Accepted {
         next,
@@ -310,10 +393,10 @@ pub fn close(out: &mut [u8], p: Parsed, h: Head, q: Parsed) -> Parsed
     ensures { λ r. ⌜ Closed h p q (now (out .entry)) (now (out .exit)) r ⌝ }
 {
     let Parsed::Accepted { next: _, count: n, items } = p else {
-        return p;
+        return again(p);
     };
     let Parsed::Accepted { next, count, items: k } = q else {
-        return q;
+        return again(q);
     };
     emit_at(
         out,
@@ -348,11 +431,17 @@ pub fn close_at(
     requires { ⌜ Small q ⌝ }
     ensures { λ r. ⌜ Closed (head kind flags (tokenFor (now (tokens .entry)) end p .pos) 0 0) p q (now (out .entry)) (now (out .exit)) r ⌝ }
 {
-    let t = next_token(tokens, end, p);
-    close_of(tokens, end, out, p, kind, flags, q, t)
+    let h = Head {
+        kind,
+        flags,
+        pos: next_pos(tokens, end, p),
+        word1: 0,
+        word2: 0,
+    };
+    close(out, p, h, q)
 }
 
-// The same by that token t.
+// The same by its first token t.
 pub fn close_of(
     tokens: &[u8],
     end: u32,
@@ -384,7 +473,7 @@ pub fn put_leaf(tokens: &[u8], out: &mut [u8], p: Parsed, h: Head) -> Parsed
     ensures { λ r. ⌜ Leafed h p (now (out .entry)) (now (out .exit)) r ⌝ }
 {
     let Parsed::Accepted { next, count, items } = p else {
-        return p;
+        return again(p);
     };
     let q = Parsed::Accepted {
         next: after(tokens, next),
@@ -428,7 +517,7 @@ pub fn refuse_at(tokens: &[u8], end: u32, p: Parsed, code: u8) -> Parsed
     ensures { λ r. ⌜ r ≡ moved (refuseFrom (now (tokens .entry)) end code) p ⌝ }
 {
     let Parsed::Accepted { next, count: _, items: _ } = p else {
-        return p;
+        return again(p);
     };
     let place = peek(tokens, end, next).pos;
     Parsed::Refused(Refusal {
@@ -438,7 +527,7 @@ pub fn refuse_at(tokens: &[u8], end: u32, p: Parsed, code: u8) -> Parsed
     })
 }
 
-// A node over one name, by the next token t, which its caller has read already.
+// A node over one name, by the next token t, a symbol, which its caller has read already.
 pub fn ident_node_of(
     tokens: &[u8],
     text: &[u8],
@@ -450,14 +539,18 @@ pub fn ident_node_of(
 ) -> Parsed
     requires { ⌜ Ready 3 (input (now tokens) (now text) end) p ⌝ }
     requires { ⌜ t ≡ tokenFor (now tokens) end p ⌝ }
+    requires { ⌜ isSymbol t ≡ true ⌝ }
     ensures { λ r. ⌜ Chained (parent (input (now (tokens .entry)) (now (text .entry)) end) kind 0 (parseIdent (input (now (tokens .entry)) (now (text .entry)) end))) p (now (out .entry)) (now (out .exit)) r ⌝ }
 {
     let children = inside(p);
-    let q = ident_of(tokens, text, end, out, children, t);
+    let Parsed::Accepted { next, count, items } = children else {
+        return again(children);
+    };
+    let q = put_name(tokens, text, out, next, count, items, t.pos, t.word1);
     close_of(tokens, end, out, p, kind, 0, q, t)
 }
 
-// A node over the name of a constant, by the next token t.
+// A node over the name of a constant, by the next token t, which starts with `$`.
 pub fn const_node_of(
     tokens: &[u8],
     text: &[u8],
@@ -469,10 +562,14 @@ pub fn const_node_of(
 ) -> Parsed
     requires { ⌜ Ready 3 (input (now tokens) (now text) end) p ⌝ }
     requires { ⌜ t ≡ tokenFor (now tokens) end p ⌝ }
+    requires { ⌜ isConst (now text) t ≡ true ⌝ }
     ensures { λ r. ⌜ Chained (parent (input (now (tokens .entry)) (now (text .entry)) end) kind 0 (parseConst (input (now (tokens .entry)) (now (text .entry)) end))) p (now (out .entry)) (now (out .exit)) r ⌝ }
 {
     let children = inside(p);
-    let q = parse_const(tokens, text, end, out, children);
+    let Parsed::Accepted { next, count, items } = children else {
+        return again(children);
+    };
+    let q = put_const(tokens, text, out, next, count, items, t.pos, t.word1);
     close_of(tokens, end, out, p, kind, 0, q, t)
 }
 
@@ -489,12 +586,12 @@ pub fn parse_name_or(
     ensures { λ r. ⌜ Chained (nameBy (input (now (tokens .entry)) (now (text .entry)) end) (refusedAs code) (λ w. w)) p (now (out .entry)) (now (out .exit)) r ⌝ }
 {
     let Parsed::Accepted { next, count, items } = p else {
-        return p;
+        return again(p);
     };
     let t = peek(tokens, end, next);
     if t.is_symbol() {
         let c = refused_as(code, spelling(text, t.word1));
-        return put_ident(tokens, out, next, count, items, t, t.word1, c);
+        return put_ident(tokens, out, next, count, items, t.pos, t.word1, c);
     }
     Parsed::Refused(unexpected(t, next))
 }
@@ -514,7 +611,7 @@ pub fn refuse_after(tokens: &[u8], text: &[u8], end: u32, p: Parsed, kind: u8, c
     ensures { λ r. ⌜ r ≡ moved (refuseAfter (input (now (tokens .entry)) (now (text .entry)) end) kind code) p ⌝ }
 {
     let Parsed::Accepted { next, count: _, items: _ } = p else {
-        return p;
+        return again(p);
     };
     let t = peek(tokens, end, next);
     if t.kind == kind {
@@ -545,7 +642,7 @@ pub fn eat(tokens: &[u8], text: &[u8], end: u32, p: Parsed, w: &[u8]) -> Parsed
     ensures { λ r. ⌜ r ≡ moved (eat (input (now (tokens .entry)) (now (text .entry)) end) (now (w .entry))) p ⌝ }
 {
     let Parsed::Accepted { next, count, items } = p else {
-        return p;
+        return again(p);
     };
     let after = ate(tokens, text, end, next, w);
     Parsed::Accepted {
@@ -596,12 +693,12 @@ pub fn parse_pragma_name(tokens: &[u8], text: &[u8], end: u32, out: &mut [u8], p
     ensures { λ r. ⌜ Chained (nameBy (input (now (tokens .entry)) (now (text .entry)) end) pragmaRefusal (λ w. w)) p (now (out .entry)) (now (out .exit)) r ⌝ }
 {
     let Parsed::Accepted { next, count, items } = p else {
-        return p;
+        return again(p);
     };
     let t = peek(tokens, end, next);
     if t.is_symbol() {
         let c = pragma_refusal(spelling(text, t.word1));
-        return put_ident(tokens, out, next, count, items, t, t.word1, c);
+        return put_ident(tokens, out, next, count, items, t.pos, t.word1, c);
     }
     Parsed::Refused(unexpected(t, next))
 }

@@ -12,7 +12,7 @@ use Rattle.trees.specs.Names.{spelled}
 use Rattle.words.specs.Words.{wordAt}
 use Rattle.words.specs.Bytes.{sameBytes}
 use Rattle.tokens.specs.declared.Token.{Token}
-use Rattle.tokens.specs.Token.{tokenCount, tokenOf, pastLast, tokenAt, isLparen, isRparen, isSymbol, isInt, isAt, isConst, isWord}
+use Rattle.tokens.specs.Token.{tokenCount, tokenOf, pastLast, tokenAt, kindAt, isLparen, isRparen, isSymbol, isInt, isAt, isConst, isWord}
 
 pub token-there : (tokens : List ℕ) (end i a b c : ℕ) → i < length tokens / 24 → a ≡ wordAt tokens (i * 24) → b ≡ wordAt tokens (i * 24 + 8) → c ≡ wordAt tokens (i * 24 + 16) → tokenOf a b c ≡ tokenAt tokens end i
 unfolding tokenAt
@@ -21,6 +21,31 @@ token-there tokens end i a b c h p q r = rw (lt-ltb i (length tokens / 24) h, p,
 pub token-past : (tokens : List ℕ) (end i : ℕ) → length tokens / 24 ≤ i → pastLast end ≡ tokenAt tokens end i
 unfolding tokenAt
 token-past tokens end i h = rw (le-ltb i (length tokens / 24) h)
+
+-- the kind alone and the position alone
+pub kind-there : (tokens : List ℕ) (i a : ℕ) → i < length tokens / 24 → a ≡ wordAt tokens (i * 24) → a / 1152921504606846976 ≡ kindAt tokens i
+unfolding kindAt
+kind-there tokens i a h p = rw (lt-ltb i (length tokens / 24) h, p)
+
+pub kind-past : (tokens : List ℕ) (i : ℕ) → length tokens / 24 ≤ i → 0 ≡ kindAt tokens i
+unfolding kindAt
+kind-past tokens i h = rw (le-ltb i (length tokens / 24) h)
+
+pub kind-is : (tokens : List ℕ) (end i : ℕ) → kindAt tokens i ≡ tokenAt tokens end i .kind
+unfolding kindAt tokenAt
+kind-is tokens end i = go (ltb i (tokenCount tokens))
+  where
+    go : (t : Bool) → pick t (wordAt tokens (i * 24) / 1152921504606846976) 0 ≡ pick t (tokenOf (wordAt tokens (i * 24)) (wordAt tokens (i * 24 + 8)) (wordAt tokens (i * 24 + 16))) (pastLast end) .kind
+    go true = refl
+    go false = refl
+
+pub pos-there : (tokens : List ℕ) (end i a : ℕ) → i < length tokens / 24 → a ≡ wordAt tokens (i * 24) → a % 4294967296 ≡ tokenAt tokens end i .pos
+unfolding tokenAt
+pos-there tokens end i a h p = rw (lt-ltb i (length tokens / 24) h, p)
+
+pub pos-past : (tokens : List ℕ) (end i : ℕ) → length tokens / 24 ≤ i → end ≡ tokenAt tokens end i .pos
+unfolding tokenAt
+pos-past tokens end i h = rw (le-ltb i (length tokens / 24) h)
 
 -- the code of is_const and is_word
 pub const-symbol : (text : List ℕ) (t : Token) (p : List ℕ) (x : ℕ) → t .kind ≡ 3 → p ≡ spelled text (t .word1) → x ≡ getD p 0 0 → eqb x 36 ≡ isConst text t

@@ -25,6 +25,14 @@ unfoldable pub tokenAt : List ℕ → ℕ → ℕ → Token
 tokenAt tokens end i =
     pick (ltb i (tokenCount tokens)) (tokenOf (wordAt tokens (i * 24)) (wordAt tokens (i * 24 + 8)) (wordAt tokens (i * 24 + 16))) (pastLast end)
 
+-- its kind alone, which is 0 past the last one
+unfoldable pub kindAt : List ℕ → ℕ → ℕ
+kindAt tokens i = pick (ltb i (tokenCount tokens)) (wordAt tokens (i * 24) / 1152921504606846976) 0
+
+-- of this kind
+unfoldable pub isKind : ℕ → Token → Bool
+isKind k t = eqb (t .kind) k
+
 unfoldable pub isLparen : Token → Bool
 isLparen t = eqb (t .kind) 1
 

@@ -8,7 +8,7 @@ use words::word;
 ghost use mathlib.Core.Path.{_≡_};
 ghost use Prim.Native.Nat.{ℕ, _+_, _≤_, _<_};
 ghost use lib.ListN.{length};
-ghost use Rattle.tokens.specs.Token.{tokenCount, tokenAt, isLparen, isRparen, isSymbol, isInt, isAt, isConst, isWord};
+ghost use Rattle.tokens.specs.Token.{tokenCount, tokenAt, kindAt, isLparen, isRparen, isSymbol, isInt, isAt, isConst, isWord};
 
 // A token by value, as the Rust's lookahead. Past the last token the kind is NONE and the position that of the end.
 pub struct Token {
@@ -101,5 +101,27 @@ pub fn token_at(tokens: &[u8], end: u32, at: usize) -> Token
             word1: 0,
             word2: 0,
         }
+    }
+}
+
+// Its kind alone, for a test of what stands next: one byte is looked at.
+pub fn kind_at(tokens: &[u8], at: usize) -> u8
+    ensures { λ r. ⌜ r ≡ kindAt (now (tokens .entry)) at ⌝ }
+{
+    if at < tokens.len() / Token::WIDTH {
+        (word(tokens, at * Token::WIDTH) / 1152921504606846976) as u8
+    } else {
+        Token::NONE
+    }
+}
+
+// Its position alone.
+pub fn pos_at(tokens: &[u8], end: u32, at: usize) -> u32
+    ensures { λ r. ⌜ r ≡ tokenAt (now (tokens .entry)) end at .pos ⌝ }
+{
+    if at < tokens.len() / Token::WIDTH {
+        (word(tokens, at * Token::WIDTH) % 4294967296) as u32
+    } else {
+        end
     }
 }

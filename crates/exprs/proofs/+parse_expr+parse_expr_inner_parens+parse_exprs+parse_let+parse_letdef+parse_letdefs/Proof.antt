@@ -1,4 +1,4 @@
-use Rattle.steps.proofs.StepLaws.{token-inside}
+use Rattle.steps.proofs.StepLaws.{token-inside, told, const-tested}
 use borrow.Author.Needs.{needs}
 use native.Mathlib.Omega.{arith}
 use mathlib.Core.Path.{_≡_}
@@ -6,8 +6,8 @@ use lib.ListN.{length}
 use Prim.Native.Nat.{ℕ, _+_, _*_, _<_}
 use Rattle.tokens.specs.Input.{input}
 use Rattle.steps.specs.Met.{Ready, endsAt}
-use Rattle.steps.proofs.MetLaws.{chain, token, refusing, node-read, leaf-here, leaf-by, next-yes, next-no, second-yes, second-no}
-use Rattle.steps.proofs.SizeLaws.{near-ready, small-after, small-moved, ready-inside, ready-after, ready-less, ready-token, ready-token-less, lparen-kinded, rparen-kinded, word-kinded, ident-bounded, ident-steady, near-inside}
+use Rattle.steps.proofs.MetLaws.{chain, token, refusing, node-read, leaf-here, leaf-by, next-yes, next-no, second-yes, second-no, by-again}
+use Rattle.steps.proofs.SizeLaws.{near-ready, small-after, small-moved, ready-inside, ready-after, ready-less, ready-token, ready-token-less, lparen-kinded, rparen-kinded, word-kinded, ident-bounded, ident-steady, near-inside, ready-again, near-again}
 use Rattle.steps.proofs.RowLaws.{Going, left, going-start, row-going, row-falls, row-met}
 use Rattle.exprs.specs.Expr.{parseLetdef, letInside, parseExprInnerParens, exprIn, parseExpr}
 use Rattle.exprs.proofs.ExprLaws.{expr-steady, expr-item, exprs-steady, letdef-steady, letdef-item, defs-steady, inner-steady, too-deep, not-too-deep}
@@ -32,6 +32,7 @@ use Rattle.exprs.proofs.+parse_expr+parse_expr_inner_parens+parse_exprs
 use Rattle.exprs.proofs.parse_letdefs.Reads as parse-letdefs
 use Rattle.exprs.proofs.parse_letdefs.Kinds as parse-letdefs-kinds
 use Rattle.exprs.proofs.+parse_expr+parse_expr_inner_parens+parse_exprs+parse_let+parse_letdef+parse_letdefs.Lts-parse_letdefs as parse-letdefs-lts
+use Rattle.steps.proofs.again.Reads as again-reads
 use Rattle.steps.proofs.close_at.Reads as close-at-reads
 use Rattle.steps.proofs.close_of.Reads as close-of-reads
 use Rattle.steps.proofs.const_node_of.Reads as const-node-of-reads
@@ -139,7 +140,7 @@ parse-letdefs-below t =
 
 abbrev parse-expr-calls : ℕ → parse-expr-lts.Claims
 parse-expr-calls t =
-    (refuse-at-reads.Asked, refuse-at-reads.Learnt, next-token-reads.Asked, next-token-reads.Learnt, is-lparen-reads.Asked, is-lparen-reads.Learnt, parse-expr-inner-parens-below t, parse-expr-inner-parens.Post, is-const-reads.Asked, is-const-reads.Learnt, const-node-of-reads.Asked, const-node-of-reads.Learnt, is-word-reads.Asked, is-word-reads.Learnt, leaf-of-reads.Asked, leaf-of-reads.Learnt, is-symbol-reads.Asked, is-symbol-reads.Learnt, ident-node-of-reads.Asked, ident-node-of-reads.Learnt, is-int-reads.Asked, is-int-reads.Learnt, put-leaf-reads.Asked, put-leaf-reads.Learnt)
+    (again-reads.Asked, again-reads.Learnt, refuse-at-reads.Asked, refuse-at-reads.Learnt, next-token-reads.Asked, next-token-reads.Learnt, is-lparen-reads.Asked, is-lparen-reads.Learnt, parse-expr-inner-parens-below t, parse-expr-inner-parens.Post, is-const-reads.Asked, is-const-reads.Learnt, const-node-of-reads.Asked, const-node-of-reads.Learnt, is-word-reads.Asked, is-word-reads.Learnt, leaf-of-reads.Asked, leaf-of-reads.Learnt, is-symbol-reads.Asked, is-symbol-reads.Learnt, ident-node-of-reads.Asked, ident-node-of-reads.Learnt, is-int-reads.Asked, is-int-reads.Learnt, put-leaf-reads.Asked, put-leaf-reads.Learnt)
 
 abbrev parse-expr-inner-parens-calls : ℕ → parse-expr-inner-parens-lts.Claims
 parse-expr-inner-parens-calls t =
@@ -161,11 +162,14 @@ abbrev parse-letdefs-calls : ℕ → parse-letdefs-lts.Claims
 parse-letdefs-calls t =
     (goes-on-reads.Asked, goes-on-reads.Learnt, parse-letdef-below t, parse-letdef.Post)
 
+parse-expr-again-requires : (t : ℕ) → parse-expr-lts.Need-again-requires (parse-expr-calls t) (parse-expr-at t) parse-expr.Post
+parse-expr-again-requires t c κs = search needs
+
 parse-expr-refuse-at-requires : (t : ℕ) → parse-expr-lts.Need-refuse-at-requires (parse-expr-calls t) (parse-expr-at t) parse-expr.Post
 parse-expr-refuse-at-requires t c κs = search needs
 
 parse-expr-returns : (t : ℕ) → parse-expr-lts.Need-returns (parse-expr-calls t) (parse-expr-at t) parse-expr.Post
-parse-expr-returns t c = search (too-deep, refusing)
+parse-expr-returns t c = by-again _ _ _ _ _ _ (c .before .before .again .ensures) (search (too-deep, refusing))
 
 parse-expr-next-token-requires : (t : ℕ) → parse-expr-lts.Need-next-token-requires (parse-expr-calls t) (parse-expr-at t) parse-expr.Post
 parse-expr-next-token-requires t c κs = search needs
@@ -177,27 +181,27 @@ parse-expr-sub-parse-expr-inner-parens : (t : ℕ) → parse-expr-lts.Need-sub-p
 parse-expr-sub-parse-expr-inner-parens t c = search needs
 
 parse-expr-parse-expr-inner-parens-requires : (t : ℕ) → parse-expr-lts.Need-parse-expr-inner-parens-requires (parse-expr-calls t) (parse-expr-at t) parse-expr.Post
-parse-expr-parse-expr-inner-parens-requires t c κs = (omega arith, (search needs, search needs))
+parse-expr-parse-expr-inner-parens-requires t c κs = (omega arith, (search ready-again, search needs))
 
 parse-expr-same-length : (t : ℕ) → parse-expr-lts.Need-same-length (parse-expr-calls t) (parse-expr-at t) parse-expr.Post
 parse-expr-same-length t c = search needs
 
 parse-expr-returns-2 : (t : ℕ) → parse-expr-lts.Need-returns-2 (parse-expr-calls t) (parse-expr-at t) parse-expr.Post
 unfolding exprIn
-parse-expr-returns-2 t c = not-too-deep _ _ _ _ _ _ (c .before .before .before .before .before .before .before .if1 .left) (next-yes _ _ _ _ _ _ _ _ _ _ _ _ (c .before .before .before .before .before .before .next-token .ensures) (c .before .before .before .before .before .is-lparen .ensures) (c .before .before .before .before .if2 .taken) (c .before .before .parse-expr-inner-parens .ensures))
+parse-expr-returns-2 t c = by-again _ _ _ _ _ _ (c .before .before .before .before .before .before .before .before .again .ensures) (not-too-deep _ _ _ _ _ _ (c .before .before .before .before .before .before .before .if1 .left) (next-yes _ _ _ _ _ _ _ _ _ _ _ _ (c .before .before .before .before .before .before .next-token .ensures) (c .before .before .before .before .before .is-lparen .ensures) (c .before .before .before .before .if2 .taken) (c .before .before .parse-expr-inner-parens .ensures)))
 
 parse-expr-is-const-requires : (t : ℕ) → parse-expr-lts.Need-is-const-requires (parse-expr-calls t) (parse-expr-at t) parse-expr.Post
 parse-expr-is-const-requires t c κs = search needs
 
 parse-expr-const-node-of-requires : (t : ℕ) → parse-expr-lts.Need-const-node-of-requires (parse-expr-calls t) (parse-expr-at t) parse-expr.Post
-parse-expr-const-node-of-requires t c κs = (search needs, search needs)
+parse-expr-const-node-of-requires t c κs = (search ready-again, (search needs, search const-tested))
 
 parse-expr-same-length-2 : (t : ℕ) → parse-expr-lts.Need-same-length-2 (parse-expr-calls t) (parse-expr-at t) parse-expr.Post
 parse-expr-same-length-2 t c = search needs
 
 parse-expr-returns-3 : (t : ℕ) → parse-expr-lts.Need-returns-3 (parse-expr-calls t) (parse-expr-at t) parse-expr.Post
 unfolding exprIn
-parse-expr-returns-3 t c = not-too-deep _ _ _ _ _ _ (c .before .before .before .before .before .before .before .before .before .if1 .left) (next-no _ _ _ _ _ _ _ _ _ _ _ _ (c .before .before .before .before .before .before .before .before .next-token .ensures) (c .before .before .before .before .before .before .before .is-lparen .ensures) (c .before .before .before .before .before .before .if2 .left) (next-yes _ _ _ _ _ _ _ _ _ _ _ _ (c .before .before .before .before .before .before .before .before .next-token .ensures) (c .before .before .before .before .before .is-const .ensures) (c .before .before .before .before .if3 .taken) (c .before .before .const-node-of .ensures)))
+parse-expr-returns-3 t c = by-again _ _ _ _ _ _ (c .before .before .before .before .before .before .before .before .before .before .again .ensures) (not-too-deep _ _ _ _ _ _ (c .before .before .before .before .before .before .before .before .before .if1 .left) (next-no _ _ _ _ _ _ _ _ _ _ _ _ (c .before .before .before .before .before .before .before .before .next-token .ensures) (c .before .before .before .before .before .before .before .is-lparen .ensures) (c .before .before .before .before .before .before .if2 .left) (next-yes _ _ _ _ _ _ _ _ _ _ _ _ (c .before .before .before .before .before .before .before .before .next-token .ensures) (c .before .before .before .before .before .is-const .ensures) (c .before .before .before .before .if3 .taken) (c .before .before .const-node-of .ensures))))
 
 parse-expr-slice-aggregate-is-word : (t : ℕ) → parse-expr-lts.Need-slice-aggregate-is-word (parse-expr-calls t) (parse-expr-at t) parse-expr.Post
 parse-expr-slice-aggregate-is-word t c = search needs
@@ -206,14 +210,14 @@ parse-expr-is-word-requires : (t : ℕ) → parse-expr-lts.Need-is-word-requires
 parse-expr-is-word-requires t c κs = search needs
 
 parse-expr-leaf-of-requires : (t : ℕ) → parse-expr-lts.Need-leaf-of-requires (parse-expr-calls t) (parse-expr-at t) parse-expr.Post
-parse-expr-leaf-of-requires t c κs = (search near-ready, search needs)
+parse-expr-leaf-of-requires t c κs = (search near-again, search needs)
 
 parse-expr-same-length-3 : (t : ℕ) → parse-expr-lts.Need-same-length-3 (parse-expr-calls t) (parse-expr-at t) parse-expr.Post
 parse-expr-same-length-3 t c = search needs
 
 parse-expr-returns-4 : (t : ℕ) → parse-expr-lts.Need-returns-4 (parse-expr-calls t) (parse-expr-at t) parse-expr.Post
 unfolding exprIn
-parse-expr-returns-4 t c = not-too-deep _ _ _ _ _ _ (c .before .before .before .before .before .before .before .before .before .before .before .before .if1 .left) (next-no _ _ _ _ _ _ _ _ _ _ _ _ (c .before .before .before .before .before .before .before .before .before .before .before .next-token .ensures) (c .before .before .before .before .before .before .before .before .before .before .is-lparen .ensures) (c .before .before .before .before .before .before .before .before .before .if2 .left) (next-no _ _ _ _ _ _ _ _ _ _ _ _ (c .before .before .before .before .before .before .before .before .before .before .before .next-token .ensures) (c .before .before .before .before .before .before .before .before .is-const .ensures) (c .before .before .before .before .before .before .before .if3 .left) (next-yes _ _ _ _ _ _ _ _ _ _ _ _ (c .before .before .before .before .before .before .before .before .before .before .before .next-token .ensures) (c .before .before .before .before .before .is-word .ensures) (c .before .before .before .before .if4 .taken) (leaf-here _ _ _ _ _ _ _ _ (c .before .before .leaf-of .ensures)))))
+parse-expr-returns-4 t c = by-again _ _ _ _ _ _ (c .before .before .before .before .before .before .before .before .before .before .before .before .before .again .ensures) (not-too-deep _ _ _ _ _ _ (c .before .before .before .before .before .before .before .before .before .before .before .before .if1 .left) (next-no _ _ _ _ _ _ _ _ _ _ _ _ (c .before .before .before .before .before .before .before .before .before .before .before .next-token .ensures) (c .before .before .before .before .before .before .before .before .before .before .is-lparen .ensures) (c .before .before .before .before .before .before .before .before .before .if2 .left) (next-no _ _ _ _ _ _ _ _ _ _ _ _ (c .before .before .before .before .before .before .before .before .before .before .before .next-token .ensures) (c .before .before .before .before .before .before .before .before .is-const .ensures) (c .before .before .before .before .before .before .before .if3 .left) (next-yes _ _ _ _ _ _ _ _ _ _ _ _ (c .before .before .before .before .before .before .before .before .before .before .before .next-token .ensures) (c .before .before .before .before .before .is-word .ensures) (c .before .before .before .before .if4 .taken) (leaf-here _ _ _ _ _ _ _ _ (c .before .before .leaf-of .ensures))))))
 
 parse-expr-slice-aggregate-is-word-2 : (t : ℕ) → parse-expr-lts.Need-slice-aggregate-is-word-2 (parse-expr-calls t) (parse-expr-at t) parse-expr.Post
 parse-expr-slice-aggregate-is-word-2 t c = search needs
@@ -222,47 +226,47 @@ parse-expr-is-word-requires-2 : (t : ℕ) → parse-expr-lts.Need-is-word-requir
 parse-expr-is-word-requires-2 t c κs = search needs
 
 parse-expr-leaf-of-requires-2 : (t : ℕ) → parse-expr-lts.Need-leaf-of-requires-2 (parse-expr-calls t) (parse-expr-at t) parse-expr.Post
-parse-expr-leaf-of-requires-2 t c κs = (search near-ready, search needs)
+parse-expr-leaf-of-requires-2 t c κs = (search near-again, search needs)
 
 parse-expr-same-length-4 : (t : ℕ) → parse-expr-lts.Need-same-length-4 (parse-expr-calls t) (parse-expr-at t) parse-expr.Post
 parse-expr-same-length-4 t c = search needs
 
 parse-expr-returns-5 : (t : ℕ) → parse-expr-lts.Need-returns-5 (parse-expr-calls t) (parse-expr-at t) parse-expr.Post
 unfolding exprIn
-parse-expr-returns-5 t c = not-too-deep _ _ _ _ _ _ (c .before .before .before .before .before .before .before .before .before .before .before .before .before .before .before .if1 .left) (next-no _ _ _ _ _ _ _ _ _ _ _ _ (c .before .before .before .before .before .before .before .before .before .before .before .before .before .before .next-token .ensures) (c .before .before .before .before .before .before .before .before .before .before .before .before .before .is-lparen .ensures) (c .before .before .before .before .before .before .before .before .before .before .before .before .if2 .left) (next-no _ _ _ _ _ _ _ _ _ _ _ _ (c .before .before .before .before .before .before .before .before .before .before .before .before .before .before .next-token .ensures) (c .before .before .before .before .before .before .before .before .before .before .before .is-const .ensures) (c .before .before .before .before .before .before .before .before .before .before .if3 .left) (next-no _ _ _ _ _ _ _ _ _ _ _ _ (c .before .before .before .before .before .before .before .before .before .before .before .before .before .before .next-token .ensures) (c .before .before .before .before .before .before .before .before .is-word .ensures) (c .before .before .before .before .before .before .before .if4 .left) (next-yes _ _ _ _ _ _ _ _ _ _ _ _ (c .before .before .before .before .before .before .before .before .before .before .before .before .before .before .next-token .ensures) (c .before .before .before .before .before .is-word2 .ensures) (c .before .before .before .before .if5 .taken) (leaf-here _ _ _ _ _ _ _ _ (c .before .before .leaf-of2 .ensures))))))
+parse-expr-returns-5 t c = by-again _ _ _ _ _ _ (c .before .before .before .before .before .before .before .before .before .before .before .before .before .before .before .before .again .ensures) (not-too-deep _ _ _ _ _ _ (c .before .before .before .before .before .before .before .before .before .before .before .before .before .before .before .if1 .left) (next-no _ _ _ _ _ _ _ _ _ _ _ _ (c .before .before .before .before .before .before .before .before .before .before .before .before .before .before .next-token .ensures) (c .before .before .before .before .before .before .before .before .before .before .before .before .before .is-lparen .ensures) (c .before .before .before .before .before .before .before .before .before .before .before .before .if2 .left) (next-no _ _ _ _ _ _ _ _ _ _ _ _ (c .before .before .before .before .before .before .before .before .before .before .before .before .before .before .next-token .ensures) (c .before .before .before .before .before .before .before .before .before .before .before .is-const .ensures) (c .before .before .before .before .before .before .before .before .before .before .if3 .left) (next-no _ _ _ _ _ _ _ _ _ _ _ _ (c .before .before .before .before .before .before .before .before .before .before .before .before .before .before .next-token .ensures) (c .before .before .before .before .before .before .before .before .is-word .ensures) (c .before .before .before .before .before .before .before .if4 .left) (next-yes _ _ _ _ _ _ _ _ _ _ _ _ (c .before .before .before .before .before .before .before .before .before .before .before .before .before .before .next-token .ensures) (c .before .before .before .before .before .is-word2 .ensures) (c .before .before .before .before .if5 .taken) (leaf-here _ _ _ _ _ _ _ _ (c .before .before .leaf-of2 .ensures)))))))
 
 parse-expr-is-symbol-requires : (t : ℕ) → parse-expr-lts.Need-is-symbol-requires (parse-expr-calls t) (parse-expr-at t) parse-expr.Post
 parse-expr-is-symbol-requires t c κs = search needs
 
 parse-expr-ident-node-of-requires : (t : ℕ) → parse-expr-lts.Need-ident-node-of-requires (parse-expr-calls t) (parse-expr-at t) parse-expr.Post
-parse-expr-ident-node-of-requires t c κs = (search needs, search needs)
+parse-expr-ident-node-of-requires t c κs = (search ready-again, (search needs, search told))
 
 parse-expr-same-length-5 : (t : ℕ) → parse-expr-lts.Need-same-length-5 (parse-expr-calls t) (parse-expr-at t) parse-expr.Post
 parse-expr-same-length-5 t c = search needs
 
 parse-expr-returns-6 : (t : ℕ) → parse-expr-lts.Need-returns-6 (parse-expr-calls t) (parse-expr-at t) parse-expr.Post
 unfolding exprIn
-parse-expr-returns-6 t c = not-too-deep _ _ _ _ _ _ (c .before .before .before .before .before .before .before .before .before .before .before .before .before .before .before .before .before .if1 .left) (next-no _ _ _ _ _ _ _ _ _ _ _ _ (c .before .before .before .before .before .before .before .before .before .before .before .before .before .before .before .before .next-token .ensures) (c .before .before .before .before .before .before .before .before .before .before .before .before .before .before .before .is-lparen .ensures) (c .before .before .before .before .before .before .before .before .before .before .before .before .before .before .if2 .left) (next-no _ _ _ _ _ _ _ _ _ _ _ _ (c .before .before .before .before .before .before .before .before .before .before .before .before .before .before .before .before .next-token .ensures) (c .before .before .before .before .before .before .before .before .before .before .before .before .before .is-const .ensures) (c .before .before .before .before .before .before .before .before .before .before .before .before .if3 .left) (next-no _ _ _ _ _ _ _ _ _ _ _ _ (c .before .before .before .before .before .before .before .before .before .before .before .before .before .before .before .before .next-token .ensures) (c .before .before .before .before .before .before .before .before .before .before .is-word .ensures) (c .before .before .before .before .before .before .before .before .before .if4 .left) (next-no _ _ _ _ _ _ _ _ _ _ _ _ (c .before .before .before .before .before .before .before .before .before .before .before .before .before .before .before .before .next-token .ensures) (c .before .before .before .before .before .before .before .is-word2 .ensures) (c .before .before .before .before .before .before .if5 .left) (next-yes _ _ _ _ _ _ _ _ _ _ _ _ (c .before .before .before .before .before .before .before .before .before .before .before .before .before .before .before .before .next-token .ensures) (c .before .before .before .before .before .is-symbol .ensures) (c .before .before .before .before .if6 .taken) (c .before .before .ident-node-of .ensures))))))
+parse-expr-returns-6 t c = by-again _ _ _ _ _ _ (c .before .before .before .before .before .before .before .before .before .before .before .before .before .before .before .before .before .before .again .ensures) (not-too-deep _ _ _ _ _ _ (c .before .before .before .before .before .before .before .before .before .before .before .before .before .before .before .before .before .if1 .left) (next-no _ _ _ _ _ _ _ _ _ _ _ _ (c .before .before .before .before .before .before .before .before .before .before .before .before .before .before .before .before .next-token .ensures) (c .before .before .before .before .before .before .before .before .before .before .before .before .before .before .before .is-lparen .ensures) (c .before .before .before .before .before .before .before .before .before .before .before .before .before .before .if2 .left) (next-no _ _ _ _ _ _ _ _ _ _ _ _ (c .before .before .before .before .before .before .before .before .before .before .before .before .before .before .before .before .next-token .ensures) (c .before .before .before .before .before .before .before .before .before .before .before .before .before .is-const .ensures) (c .before .before .before .before .before .before .before .before .before .before .before .before .if3 .left) (next-no _ _ _ _ _ _ _ _ _ _ _ _ (c .before .before .before .before .before .before .before .before .before .before .before .before .before .before .before .before .next-token .ensures) (c .before .before .before .before .before .before .before .before .before .before .is-word .ensures) (c .before .before .before .before .before .before .before .before .before .if4 .left) (next-no _ _ _ _ _ _ _ _ _ _ _ _ (c .before .before .before .before .before .before .before .before .before .before .before .before .before .before .before .before .next-token .ensures) (c .before .before .before .before .before .before .before .is-word2 .ensures) (c .before .before .before .before .before .before .if5 .left) (next-yes _ _ _ _ _ _ _ _ _ _ _ _ (c .before .before .before .before .before .before .before .before .before .before .before .before .before .before .before .before .next-token .ensures) (c .before .before .before .before .before .is-symbol .ensures) (c .before .before .before .before .if6 .taken) (c .before .before .ident-node-of .ensures)))))))
 
 parse-expr-is-int-requires : (t : ℕ) → parse-expr-lts.Need-is-int-requires (parse-expr-calls t) (parse-expr-at t) parse-expr.Post
 parse-expr-is-int-requires t c κs = search needs
 
 parse-expr-put-leaf-requires : (t : ℕ) → parse-expr-lts.Need-put-leaf-requires (parse-expr-calls t) (parse-expr-at t) parse-expr.Post
-parse-expr-put-leaf-requires t c κs = search near-ready
+parse-expr-put-leaf-requires t c κs = search near-again
 
 parse-expr-same-length-6 : (t : ℕ) → parse-expr-lts.Need-same-length-6 (parse-expr-calls t) (parse-expr-at t) parse-expr.Post
 parse-expr-same-length-6 t c = search needs
 
 parse-expr-returns-7 : (t : ℕ) → parse-expr-lts.Need-returns-7 (parse-expr-calls t) (parse-expr-at t) parse-expr.Post
 unfolding exprIn
-parse-expr-returns-7 t c = not-too-deep _ _ _ _ _ _ (c .before .before .before .before .before .before .before .before .before .before .before .before .before .before .before .before .before .before .before .if1 .left) (next-no _ _ _ _ _ _ _ _ _ _ _ _ (c .before .before .before .before .before .before .before .before .before .before .before .before .before .before .before .before .before .before .next-token .ensures) (c .before .before .before .before .before .before .before .before .before .before .before .before .before .before .before .before .before .is-lparen .ensures) (c .before .before .before .before .before .before .before .before .before .before .before .before .before .before .before .before .if2 .left) (next-no _ _ _ _ _ _ _ _ _ _ _ _ (c .before .before .before .before .before .before .before .before .before .before .before .before .before .before .before .before .before .before .next-token .ensures) (c .before .before .before .before .before .before .before .before .before .before .before .before .before .before .before .is-const .ensures) (c .before .before .before .before .before .before .before .before .before .before .before .before .before .before .if3 .left) (next-no _ _ _ _ _ _ _ _ _ _ _ _ (c .before .before .before .before .before .before .before .before .before .before .before .before .before .before .before .before .before .before .next-token .ensures) (c .before .before .before .before .before .before .before .before .before .before .before .before .is-word .ensures) (c .before .before .before .before .before .before .before .before .before .before .before .if4 .left) (next-no _ _ _ _ _ _ _ _ _ _ _ _ (c .before .before .before .before .before .before .before .before .before .before .before .before .before .before .before .before .before .before .next-token .ensures) (c .before .before .before .before .before .before .before .before .before .is-word2 .ensures) (c .before .before .before .before .before .before .before .before .if5 .left) (next-no _ _ _ _ _ _ _ _ _ _ _ _ (c .before .before .before .before .before .before .before .before .before .before .before .before .before .before .before .before .before .before .next-token .ensures) (c .before .before .before .before .before .before .before .is-symbol .ensures) (c .before .before .before .before .before .before .if6 .left) (next-yes _ _ _ _ _ _ _ _ _ _ _ _ (c .before .before .before .before .before .before .before .before .before .before .before .before .before .before .before .before .before .before .next-token .ensures) (c .before .before .before .before .before .is-int .ensures) (c .before .before .before .before .if7 .taken) (leaf-by _ _ _ _ _ _ _ _ _ (c .before .before .before .before .before .before .before .before .before .before .before .before .before .before .before .before .before .before .next-token .ensures) (c .before .before .put-leaf .ensures))))))))
+parse-expr-returns-7 t c = by-again _ _ _ _ _ _ (c .before .before .before .before .before .before .before .before .before .before .before .before .before .before .before .before .before .before .before .before .again .ensures) (not-too-deep _ _ _ _ _ _ (c .before .before .before .before .before .before .before .before .before .before .before .before .before .before .before .before .before .before .before .if1 .left) (next-no _ _ _ _ _ _ _ _ _ _ _ _ (c .before .before .before .before .before .before .before .before .before .before .before .before .before .before .before .before .before .before .next-token .ensures) (c .before .before .before .before .before .before .before .before .before .before .before .before .before .before .before .before .before .is-lparen .ensures) (c .before .before .before .before .before .before .before .before .before .before .before .before .before .before .before .before .if2 .left) (next-no _ _ _ _ _ _ _ _ _ _ _ _ (c .before .before .before .before .before .before .before .before .before .before .before .before .before .before .before .before .before .before .next-token .ensures) (c .before .before .before .before .before .before .before .before .before .before .before .before .before .before .before .is-const .ensures) (c .before .before .before .before .before .before .before .before .before .before .before .before .before .before .if3 .left) (next-no _ _ _ _ _ _ _ _ _ _ _ _ (c .before .before .before .before .before .before .before .before .before .before .before .before .before .before .before .before .before .before .next-token .ensures) (c .before .before .before .before .before .before .before .before .before .before .before .before .is-word .ensures) (c .before .before .before .before .before .before .before .before .before .before .before .if4 .left) (next-no _ _ _ _ _ _ _ _ _ _ _ _ (c .before .before .before .before .before .before .before .before .before .before .before .before .before .before .before .before .before .before .next-token .ensures) (c .before .before .before .before .before .before .before .before .before .is-word2 .ensures) (c .before .before .before .before .before .before .before .before .if5 .left) (next-no _ _ _ _ _ _ _ _ _ _ _ _ (c .before .before .before .before .before .before .before .before .before .before .before .before .before .before .before .before .before .before .next-token .ensures) (c .before .before .before .before .before .before .before .is-symbol .ensures) (c .before .before .before .before .before .before .if6 .left) (next-yes _ _ _ _ _ _ _ _ _ _ _ _ (c .before .before .before .before .before .before .before .before .before .before .before .before .before .before .before .before .before .before .next-token .ensures) (c .before .before .before .before .before .is-int .ensures) (c .before .before .before .before .if7 .taken) (leaf-by _ _ _ _ _ _ _ _ _ (c .before .before .before .before .before .before .before .before .before .before .before .before .before .before .before .before .before .before .next-token .ensures) (c .before .before .put-leaf .ensures)))))))))
 
 parse-expr-refuse-at-requires-2 : (t : ℕ) → parse-expr-lts.Need-refuse-at-requires-2 (parse-expr-calls t) (parse-expr-at t) parse-expr.Post
 parse-expr-refuse-at-requires-2 t c κs = search needs
 
 parse-expr-returns-8 : (t : ℕ) → parse-expr-lts.Need-returns-8 (parse-expr-calls t) (parse-expr-at t) parse-expr.Post
 unfolding exprIn
-parse-expr-returns-8 t c = not-too-deep _ _ _ _ _ _ (c .before .before .before .before .before .before .before .before .before .before .before .before .before .before .before .before .if1 .left) (next-no _ _ _ _ _ _ _ _ _ _ _ _ (c .before .before .before .before .before .before .before .before .before .before .before .before .before .before .before .next-token .ensures) (c .before .before .before .before .before .before .before .before .before .before .before .before .before .before .is-lparen .ensures) (c .before .before .before .before .before .before .before .before .before .before .before .before .before .if2 .left) (next-no _ _ _ _ _ _ _ _ _ _ _ _ (c .before .before .before .before .before .before .before .before .before .before .before .before .before .before .before .next-token .ensures) (c .before .before .before .before .before .before .before .before .before .before .before .before .is-const .ensures) (c .before .before .before .before .before .before .before .before .before .before .before .if3 .left) (next-no _ _ _ _ _ _ _ _ _ _ _ _ (c .before .before .before .before .before .before .before .before .before .before .before .before .before .before .before .next-token .ensures) (c .before .before .before .before .before .before .before .before .before .is-word .ensures) (c .before .before .before .before .before .before .before .before .if4 .left) (next-no _ _ _ _ _ _ _ _ _ _ _ _ (c .before .before .before .before .before .before .before .before .before .before .before .before .before .before .before .next-token .ensures) (c .before .before .before .before .before .before .is-word2 .ensures) (c .before .before .before .before .before .if5 .left) (next-no _ _ _ _ _ _ _ _ _ _ _ _ (c .before .before .before .before .before .before .before .before .before .before .before .before .before .before .before .next-token .ensures) (c .before .before .before .before .is-symbol .ensures) (c .before .before .before .if6 .left) (next-no _ _ _ _ _ _ _ _ _ _ _ _ (c .before .before .before .before .before .before .before .before .before .before .before .before .before .before .before .next-token .ensures) (c .before .before .is-int .ensures) (c .before .if7 .left) (refusing _ _ _ _ _ _ (c .refuse-at2 .ensures))))))))
+parse-expr-returns-8 t c = by-again _ _ _ _ _ _ (c .before .before .before .before .before .before .before .before .before .before .before .before .before .before .before .before .before .again .ensures) (not-too-deep _ _ _ _ _ _ (c .before .before .before .before .before .before .before .before .before .before .before .before .before .before .before .before .if1 .left) (next-no _ _ _ _ _ _ _ _ _ _ _ _ (c .before .before .before .before .before .before .before .before .before .before .before .before .before .before .before .next-token .ensures) (c .before .before .before .before .before .before .before .before .before .before .before .before .before .before .is-lparen .ensures) (c .before .before .before .before .before .before .before .before .before .before .before .before .before .if2 .left) (next-no _ _ _ _ _ _ _ _ _ _ _ _ (c .before .before .before .before .before .before .before .before .before .before .before .before .before .before .before .next-token .ensures) (c .before .before .before .before .before .before .before .before .before .before .before .before .is-const .ensures) (c .before .before .before .before .before .before .before .before .before .before .before .if3 .left) (next-no _ _ _ _ _ _ _ _ _ _ _ _ (c .before .before .before .before .before .before .before .before .before .before .before .before .before .before .before .next-token .ensures) (c .before .before .before .before .before .before .before .before .before .is-word .ensures) (c .before .before .before .before .before .before .before .before .if4 .left) (next-no _ _ _ _ _ _ _ _ _ _ _ _ (c .before .before .before .before .before .before .before .before .before .before .before .before .before .before .before .next-token .ensures) (c .before .before .before .before .before .before .is-word2 .ensures) (c .before .before .before .before .before .if5 .left) (next-no _ _ _ _ _ _ _ _ _ _ _ _ (c .before .before .before .before .before .before .before .before .before .before .before .before .before .before .before .next-token .ensures) (c .before .before .before .before .is-symbol .ensures) (c .before .before .before .if6 .left) (next-no _ _ _ _ _ _ _ _ _ _ _ _ (c .before .before .before .before .before .before .before .before .before .before .before .before .before .before .before .next-token .ensures) (c .before .before .is-int .ensures) (c .before .if7 .left) (refusing _ _ _ _ _ _ (c .refuse-at2 .ensures)))))))))
 
 parse-expr-inner-parens-second-token-requires : (t : ℕ) → parse-expr-inner-parens-lts.Need-second-token-requires (parse-expr-inner-parens-calls t) (parse-expr-inner-parens-at t) parse-expr-inner-parens.Post
 parse-expr-inner-parens-second-token-requires t c κs = search near-ready
@@ -434,6 +438,7 @@ pub +parse-expr+parse-expr-inner-parens+parse-exprs+parse-let+parse-letdef+parse
     (λ t. parse-expr-lts.spec (parse-expr-calls t)
     (parse-expr-at t)
     parse-expr.Post
+    (parse-expr-again-requires t)
     (parse-expr-refuse-at-requires t)
     (parse-expr-returns t)
     (parse-expr-next-token-requires t)

@@ -1,4 +1,4 @@
-use Rattle.steps.proofs.StepLaws.{token-inside}
+use Rattle.steps.proofs.StepLaws.{token-inside, told, const-tested}
 use borrow.Author.Needs.{needs}
 use native.Mathlib.Omega.{arith}
 use mathlib.Core.Path.{_≡_}
@@ -6,8 +6,8 @@ use lib.ListN.{length}
 use Prim.Native.Nat.{ℕ, _+_, _*_, _<_}
 use Rattle.tokens.specs.Input.{input}
 use Rattle.steps.specs.Met.{Ready, endsAt}
-use Rattle.steps.proofs.MetLaws.{chain, token, refusing, node-read, leaf-here, leaf-by, next-yes, next-no, second-yes, second-no}
-use Rattle.steps.proofs.SizeLaws.{near-ready, small-after, small-moved, ready-inside, ready-after, ready-less, ready-token, ready-token-less, lparen-kinded, at-kinded, word-kinded, ident-bounded, ident-steady, near-inside}
+use Rattle.steps.proofs.MetLaws.{chain, token, refusing, node-read, leaf-here, leaf-by, next-yes, next-no, second-yes, second-no, second-at, second-not-at, by-again}
+use Rattle.steps.proofs.SizeLaws.{near-ready, small-after, small-moved, ready-inside, ready-after, ready-less, ready-token, ready-token-less, lparen-kinded, at-kinded, word-kinded, ident-bounded, ident-steady, near-inside, ready-again, near-again}
 use Rattle.steps.proofs.RowLaws.{Going, left, going-start, row-going, row-falls, row-met}
 use Rattle.patterns.specs.Pattern.{compound, patternIn, parsePattern}
 use Rattle.patterns.proofs.PatternLaws.{pattern-steady, pattern-item, patterns-steady, too-deep, not-too-deep}
@@ -32,6 +32,7 @@ use Rattle.patterns.proofs.+parse_and+parse_bind+parse_compound+parse_p
 use Rattle.patterns.proofs.parse_term.Reads as parse-term
 use Rattle.patterns.proofs.parse_term.Kinds as parse-term-kinds
 use Rattle.patterns.proofs.+parse_and+parse_bind+parse_compound+parse_pattern+parse_patterns+parse_term.Lts-parse_term as parse-term-lts
+use Rattle.steps.proofs.again.Reads as again-reads
 use Rattle.steps.proofs.close_of.Reads as close-of-reads
 use Rattle.steps.proofs.const_node_of.Reads as const-node-of-reads
 use Rattle.steps.proofs.expect_at.Reads as expect-at-reads
@@ -46,8 +47,8 @@ use Rattle.steps.proofs.next_token.Reads as next-token-reads
 use Rattle.steps.proofs.parse_ident.Reads as parse-ident-reads
 use Rattle.steps.proofs.put_leaf.Reads as put-leaf-reads
 use Rattle.steps.proofs.refuse_at.Reads as refuse-at-reads
+use Rattle.steps.proofs.second_kind.Reads as second-kind-reads
 use Rattle.steps.proofs.second_token.Reads as second-token-reads
-use Rattle.tokens.proofs.Token.is_at.Reads as is-at-reads
 use Rattle.tokens.proofs.Token.is_const.Reads as is-const-reads
 use Rattle.tokens.proofs.Token.is_int.Reads as is-int-reads
 use Rattle.tokens.proofs.Token.is_lparen.Reads as is-lparen-reads
@@ -199,16 +200,13 @@ parse-bind-returns t c = node-read _ _ _ _ _ _ _ _ _ _ _ _ _ (c .before .before 
 
 abbrev parse-compound-calls : ℕ → parse-compound-lts.Claims
 parse-compound-calls t =
-    (second-token-reads.Asked, second-token-reads.Learnt, is-symbol-reads.Asked, is-symbol-reads.Learnt, is-at-reads.Asked, is-at-reads.Learnt, parse-bind-below t, parse-bind.Post, ident-node-of-reads.Asked, ident-node-of-reads.Learnt, is-lparen-reads.Asked, is-lparen-reads.Learnt, is-word-reads.Asked, is-word-reads.Learnt, parse-and-below t, parse-and.Post, parse-term-below t, parse-term.Post, refuse-at-reads.Asked, refuse-at-reads.Learnt)
-
-parse-compound-second-token-requires : (t : ℕ) → parse-compound-lts.Need-second-token-requires (parse-compound-calls t) (parse-compound-at t) parse-compound.Post
-parse-compound-second-token-requires t c κs = search near-ready
+    (is-symbol-reads.Asked, is-symbol-reads.Learnt, second-kind-reads.Asked, second-kind-reads.Learnt, parse-bind-below t, parse-bind.Post, ident-node-of-reads.Asked, ident-node-of-reads.Learnt, is-lparen-reads.Asked, is-lparen-reads.Learnt, second-token-reads.Asked, second-token-reads.Learnt, is-word-reads.Asked, is-word-reads.Learnt, parse-and-below t, parse-and.Post, parse-term-below t, parse-term.Post, refuse-at-reads.Asked, refuse-at-reads.Learnt)
 
 parse-compound-is-symbol-requires : (t : ℕ) → parse-compound-lts.Need-is-symbol-requires (parse-compound-calls t) (parse-compound-at t) parse-compound.Post
 parse-compound-is-symbol-requires t c κs = search needs
 
-parse-compound-is-at-requires : (t : ℕ) → parse-compound-lts.Need-is-at-requires (parse-compound-calls t) (parse-compound-at t) parse-compound.Post
-parse-compound-is-at-requires t c κs = search needs
+parse-compound-second-kind-requires : (t : ℕ) → parse-compound-lts.Need-second-kind-requires (parse-compound-calls t) (parse-compound-at t) parse-compound.Post
+parse-compound-second-kind-requires t c κs = search near-ready
 
 parse-compound-parse-bind-requires : (t : ℕ) → parse-compound-lts.Need-parse-bind-requires (parse-compound-calls t) (parse-compound-at t) parse-compound.Post
 parse-compound-parse-bind-requires t c κs = (omega arith, (search needs, search needs))
@@ -218,20 +216,23 @@ parse-compound-same-length t c = search needs
 
 parse-compound-returns : (t : ℕ) → parse-compound-lts.Need-returns (parse-compound-calls t) (parse-compound-at t) parse-compound.Post
 unfolding compound
-parse-compound-returns t c = search (next-yes, next-no, second-yes, second-no, refusing)
+parse-compound-returns t c = search (next-yes, second-at)
 
 parse-compound-ident-node-of-requires : (t : ℕ) → parse-compound-lts.Need-ident-node-of-requires (parse-compound-calls t) (parse-compound-at t) parse-compound.Post
-parse-compound-ident-node-of-requires t c κs = (search needs, search needs)
+parse-compound-ident-node-of-requires t c κs = (search needs, (search needs, search told))
 
 parse-compound-same-length-2 : (t : ℕ) → parse-compound-lts.Need-same-length-2 (parse-compound-calls t) (parse-compound-at t) parse-compound.Post
 parse-compound-same-length-2 t c = search needs
 
 parse-compound-returns-2 : (t : ℕ) → parse-compound-lts.Need-returns-2 (parse-compound-calls t) (parse-compound-at t) parse-compound.Post
 unfolding compound
-parse-compound-returns-2 t c = search (next-yes, next-no, second-yes, second-no, refusing)
+parse-compound-returns-2 t c = search (next-yes, second-not-at)
 
 parse-compound-is-lparen-requires : (t : ℕ) → parse-compound-lts.Need-is-lparen-requires (parse-compound-calls t) (parse-compound-at t) parse-compound.Post
 parse-compound-is-lparen-requires t c κs = search needs
+
+parse-compound-second-token-requires : (t : ℕ) → parse-compound-lts.Need-second-token-requires (parse-compound-calls t) (parse-compound-at t) parse-compound.Post
+parse-compound-second-token-requires t c κs = search near-ready
 
 parse-compound-slice-aggregate-is-word : (t : ℕ) → parse-compound-lts.Need-slice-aggregate-is-word (parse-compound-calls t) (parse-compound-at t) parse-compound.Post
 parse-compound-slice-aggregate-is-word t c = search needs
@@ -268,13 +269,16 @@ parse-compound-returns-5 t c = search (next-yes, next-no, second-yes, second-no,
 
 abbrev parse-pattern-calls : ℕ → parse-pattern-lts.Claims
 parse-pattern-calls t =
-    (refuse-at-reads.Asked, refuse-at-reads.Learnt, next-token-reads.Asked, next-token-reads.Learnt, is-int-reads.Asked, is-int-reads.Learnt, put-leaf-reads.Asked, put-leaf-reads.Learnt, is-const-reads.Asked, is-const-reads.Learnt, const-node-of-reads.Asked, const-node-of-reads.Learnt, is-word-reads.Asked, is-word-reads.Learnt, leaf-of-reads.Asked, leaf-of-reads.Learnt, parse-compound-below t, parse-compound.Post)
+    (again-reads.Asked, again-reads.Learnt, refuse-at-reads.Asked, refuse-at-reads.Learnt, next-token-reads.Asked, next-token-reads.Learnt, is-int-reads.Asked, is-int-reads.Learnt, put-leaf-reads.Asked, put-leaf-reads.Learnt, is-const-reads.Asked, is-const-reads.Learnt, const-node-of-reads.Asked, const-node-of-reads.Learnt, is-word-reads.Asked, is-word-reads.Learnt, leaf-of-reads.Asked, leaf-of-reads.Learnt, parse-compound-below t, parse-compound.Post)
+
+parse-pattern-again-requires : (t : ℕ) → parse-pattern-lts.Need-again-requires (parse-pattern-calls t) (parse-pattern-at t) parse-pattern.Post
+parse-pattern-again-requires t c κs = search needs
 
 parse-pattern-refuse-at-requires : (t : ℕ) → parse-pattern-lts.Need-refuse-at-requires (parse-pattern-calls t) (parse-pattern-at t) parse-pattern.Post
 parse-pattern-refuse-at-requires t c κs = search needs
 
 parse-pattern-returns : (t : ℕ) → parse-pattern-lts.Need-returns (parse-pattern-calls t) (parse-pattern-at t) parse-pattern.Post
-parse-pattern-returns t c = search (too-deep, refusing)
+parse-pattern-returns t c = by-again _ _ _ _ _ _ (c .before .before .again .ensures) (search (too-deep, refusing))
 
 parse-pattern-next-token-requires : (t : ℕ) → parse-pattern-lts.Need-next-token-requires (parse-pattern-calls t) (parse-pattern-at t) parse-pattern.Post
 parse-pattern-next-token-requires t c κs = search needs
@@ -283,27 +287,27 @@ parse-pattern-is-int-requires : (t : ℕ) → parse-pattern-lts.Need-is-int-requ
 parse-pattern-is-int-requires t c κs = search needs
 
 parse-pattern-put-leaf-requires : (t : ℕ) → parse-pattern-lts.Need-put-leaf-requires (parse-pattern-calls t) (parse-pattern-at t) parse-pattern.Post
-parse-pattern-put-leaf-requires t c κs = search near-ready
+parse-pattern-put-leaf-requires t c κs = search near-again
 
 parse-pattern-same-length : (t : ℕ) → parse-pattern-lts.Need-same-length (parse-pattern-calls t) (parse-pattern-at t) parse-pattern.Post
 parse-pattern-same-length t c = search needs
 
 parse-pattern-returns-2 : (t : ℕ) → parse-pattern-lts.Need-returns-2 (parse-pattern-calls t) (parse-pattern-at t) parse-pattern.Post
 unfolding patternIn
-parse-pattern-returns-2 t c = search (not-too-deep, next-yes, next-no, leaf-here, leaf-by)
+parse-pattern-returns-2 t c = by-again _ _ _ _ _ _ (c .before .before .before .before .before .before .before .before .again .ensures) (search (not-too-deep, next-yes, next-no, leaf-here, leaf-by))
 
 parse-pattern-is-const-requires : (t : ℕ) → parse-pattern-lts.Need-is-const-requires (parse-pattern-calls t) (parse-pattern-at t) parse-pattern.Post
 parse-pattern-is-const-requires t c κs = search needs
 
 parse-pattern-const-node-of-requires : (t : ℕ) → parse-pattern-lts.Need-const-node-of-requires (parse-pattern-calls t) (parse-pattern-at t) parse-pattern.Post
-parse-pattern-const-node-of-requires t c κs = (search needs, search needs)
+parse-pattern-const-node-of-requires t c κs = (search ready-again, (search needs, search const-tested))
 
 parse-pattern-same-length-2 : (t : ℕ) → parse-pattern-lts.Need-same-length-2 (parse-pattern-calls t) (parse-pattern-at t) parse-pattern.Post
 parse-pattern-same-length-2 t c = search needs
 
 parse-pattern-returns-3 : (t : ℕ) → parse-pattern-lts.Need-returns-3 (parse-pattern-calls t) (parse-pattern-at t) parse-pattern.Post
 unfolding patternIn
-parse-pattern-returns-3 t c = search (not-too-deep, next-yes, next-no, leaf-here, leaf-by)
+parse-pattern-returns-3 t c = by-again _ _ _ _ _ _ (c .before .before .before .before .before .before .before .before .before .before .again .ensures) (search (not-too-deep, next-yes, next-no, leaf-here, leaf-by))
 
 parse-pattern-slice-aggregate-is-word : (t : ℕ) → parse-pattern-lts.Need-slice-aggregate-is-word (parse-pattern-calls t) (parse-pattern-at t) parse-pattern.Post
 parse-pattern-slice-aggregate-is-word t c = search needs
@@ -312,14 +316,14 @@ parse-pattern-is-word-requires : (t : ℕ) → parse-pattern-lts.Need-is-word-re
 parse-pattern-is-word-requires t c κs = search needs
 
 parse-pattern-leaf-of-requires : (t : ℕ) → parse-pattern-lts.Need-leaf-of-requires (parse-pattern-calls t) (parse-pattern-at t) parse-pattern.Post
-parse-pattern-leaf-of-requires t c κs = (search near-ready, search needs)
+parse-pattern-leaf-of-requires t c κs = (search near-again, search needs)
 
 parse-pattern-same-length-3 : (t : ℕ) → parse-pattern-lts.Need-same-length-3 (parse-pattern-calls t) (parse-pattern-at t) parse-pattern.Post
 parse-pattern-same-length-3 t c = search needs
 
 parse-pattern-returns-4 : (t : ℕ) → parse-pattern-lts.Need-returns-4 (parse-pattern-calls t) (parse-pattern-at t) parse-pattern.Post
 unfolding patternIn
-parse-pattern-returns-4 t c = search (not-too-deep, next-yes, next-no, leaf-here, leaf-by)
+parse-pattern-returns-4 t c = by-again _ _ _ _ _ _ (c .before .before .before .before .before .before .before .before .before .before .before .before .before .again .ensures) (search (not-too-deep, next-yes, next-no, leaf-here, leaf-by))
 
 parse-pattern-slice-aggregate-is-word-2 : (t : ℕ) → parse-pattern-lts.Need-slice-aggregate-is-word-2 (parse-pattern-calls t) (parse-pattern-at t) parse-pattern.Post
 parse-pattern-slice-aggregate-is-word-2 t c = search needs
@@ -328,14 +332,14 @@ parse-pattern-is-word-requires-2 : (t : ℕ) → parse-pattern-lts.Need-is-word-
 parse-pattern-is-word-requires-2 t c κs = search needs
 
 parse-pattern-leaf-of-requires-2 : (t : ℕ) → parse-pattern-lts.Need-leaf-of-requires-2 (parse-pattern-calls t) (parse-pattern-at t) parse-pattern.Post
-parse-pattern-leaf-of-requires-2 t c κs = (search near-ready, search needs)
+parse-pattern-leaf-of-requires-2 t c κs = (search near-again, search needs)
 
 parse-pattern-same-length-4 : (t : ℕ) → parse-pattern-lts.Need-same-length-4 (parse-pattern-calls t) (parse-pattern-at t) parse-pattern.Post
 parse-pattern-same-length-4 t c = search needs
 
 parse-pattern-returns-5 : (t : ℕ) → parse-pattern-lts.Need-returns-5 (parse-pattern-calls t) (parse-pattern-at t) parse-pattern.Post
 unfolding patternIn
-parse-pattern-returns-5 t c = not-too-deep _ _ _ _ _ _ (c .before .before .before .before .before .before .before .before .before .before .before .before .before .before .before .if1 .left) (next-no _ _ _ _ _ _ _ _ _ _ _ _ (c .before .before .before .before .before .before .before .before .before .before .before .before .before .before .next-token .ensures) (c .before .before .before .before .before .before .before .before .before .before .before .before .before .is-int .ensures) (c .before .before .before .before .before .before .before .before .before .before .before .before .if2 .left) (next-no _ _ _ _ _ _ _ _ _ _ _ _ (c .before .before .before .before .before .before .before .before .before .before .before .before .before .before .next-token .ensures) (c .before .before .before .before .before .before .before .before .before .before .before .is-const .ensures) (c .before .before .before .before .before .before .before .before .before .before .if3 .left) (next-no _ _ _ _ _ _ _ _ _ _ _ _ (c .before .before .before .before .before .before .before .before .before .before .before .before .before .before .next-token .ensures) (c .before .before .before .before .before .before .before .before .is-word .ensures) (c .before .before .before .before .before .before .before .if4 .left) (next-yes _ _ _ _ _ _ _ _ _ _ _ _ (c .before .before .before .before .before .before .before .before .before .before .before .before .before .before .next-token .ensures) (c .before .before .before .before .before .is-word2 .ensures) (c .before .before .before .before .if5 .taken) (leaf-here _ _ _ _ _ _ _ _ (c .before .before .leaf-of2 .ensures))))))
+parse-pattern-returns-5 t c = by-again _ _ _ _ _ _ (c .before .before .before .before .before .before .before .before .before .before .before .before .before .before .before .before .again .ensures) (not-too-deep _ _ _ _ _ _ (c .before .before .before .before .before .before .before .before .before .before .before .before .before .before .before .if1 .left) (next-no _ _ _ _ _ _ _ _ _ _ _ _ (c .before .before .before .before .before .before .before .before .before .before .before .before .before .before .next-token .ensures) (c .before .before .before .before .before .before .before .before .before .before .before .before .before .is-int .ensures) (c .before .before .before .before .before .before .before .before .before .before .before .before .if2 .left) (next-no _ _ _ _ _ _ _ _ _ _ _ _ (c .before .before .before .before .before .before .before .before .before .before .before .before .before .before .next-token .ensures) (c .before .before .before .before .before .before .before .before .before .before .before .is-const .ensures) (c .before .before .before .before .before .before .before .before .before .before .if3 .left) (next-no _ _ _ _ _ _ _ _ _ _ _ _ (c .before .before .before .before .before .before .before .before .before .before .before .before .before .before .next-token .ensures) (c .before .before .before .before .before .before .before .before .is-word .ensures) (c .before .before .before .before .before .before .before .if4 .left) (next-yes _ _ _ _ _ _ _ _ _ _ _ _ (c .before .before .before .before .before .before .before .before .before .before .before .before .before .before .next-token .ensures) (c .before .before .before .before .before .is-word2 .ensures) (c .before .before .before .before .if5 .taken) (leaf-here _ _ _ _ _ _ _ _ (c .before .before .leaf-of2 .ensures)))))))
 
 parse-pattern-slice-aggregate-is-word-3 : (t : ℕ) → parse-pattern-lts.Need-slice-aggregate-is-word-3 (parse-pattern-calls t) (parse-pattern-at t) parse-pattern.Post
 parse-pattern-slice-aggregate-is-word-3 t c = search needs
@@ -344,27 +348,27 @@ parse-pattern-is-word-requires-3 : (t : ℕ) → parse-pattern-lts.Need-is-word-
 parse-pattern-is-word-requires-3 t c κs = search needs
 
 parse-pattern-leaf-of-requires-3 : (t : ℕ) → parse-pattern-lts.Need-leaf-of-requires-3 (parse-pattern-calls t) (parse-pattern-at t) parse-pattern.Post
-parse-pattern-leaf-of-requires-3 t c κs = (search near-ready, search needs)
+parse-pattern-leaf-of-requires-3 t c κs = (search near-again, search needs)
 
 parse-pattern-same-length-5 : (t : ℕ) → parse-pattern-lts.Need-same-length-5 (parse-pattern-calls t) (parse-pattern-at t) parse-pattern.Post
 parse-pattern-same-length-5 t c = search needs
 
 parse-pattern-returns-6 : (t : ℕ) → parse-pattern-lts.Need-returns-6 (parse-pattern-calls t) (parse-pattern-at t) parse-pattern.Post
 unfolding patternIn
-parse-pattern-returns-6 t c = not-too-deep _ _ _ _ _ _ (c .before .before .before .before .before .before .before .before .before .before .before .before .before .before .before .before .before .before .if1 .left) (next-no _ _ _ _ _ _ _ _ _ _ _ _ (c .before .before .before .before .before .before .before .before .before .before .before .before .before .before .before .before .before .next-token .ensures) (c .before .before .before .before .before .before .before .before .before .before .before .before .before .before .before .before .is-int .ensures) (c .before .before .before .before .before .before .before .before .before .before .before .before .before .before .before .if2 .left) (next-no _ _ _ _ _ _ _ _ _ _ _ _ (c .before .before .before .before .before .before .before .before .before .before .before .before .before .before .before .before .before .next-token .ensures) (c .before .before .before .before .before .before .before .before .before .before .before .before .before .before .is-const .ensures) (c .before .before .before .before .before .before .before .before .before .before .before .before .before .if3 .left) (next-no _ _ _ _ _ _ _ _ _ _ _ _ (c .before .before .before .before .before .before .before .before .before .before .before .before .before .before .before .before .before .next-token .ensures) (c .before .before .before .before .before .before .before .before .before .before .before .is-word .ensures) (c .before .before .before .before .before .before .before .before .before .before .if4 .left) (next-no _ _ _ _ _ _ _ _ _ _ _ _ (c .before .before .before .before .before .before .before .before .before .before .before .before .before .before .before .before .before .next-token .ensures) (c .before .before .before .before .before .before .before .before .is-word2 .ensures) (c .before .before .before .before .before .before .before .if5 .left) (next-yes _ _ _ _ _ _ _ _ _ _ _ _ (c .before .before .before .before .before .before .before .before .before .before .before .before .before .before .before .before .before .next-token .ensures) (c .before .before .before .before .before .is-word3 .ensures) (c .before .before .before .before .if6 .taken) (leaf-here _ _ _ _ _ _ _ _ (c .before .before .leaf-of3 .ensures)))))))
+parse-pattern-returns-6 t c = by-again _ _ _ _ _ _ (c .before .before .before .before .before .before .before .before .before .before .before .before .before .before .before .before .before .before .before .again .ensures) (not-too-deep _ _ _ _ _ _ (c .before .before .before .before .before .before .before .before .before .before .before .before .before .before .before .before .before .before .if1 .left) (next-no _ _ _ _ _ _ _ _ _ _ _ _ (c .before .before .before .before .before .before .before .before .before .before .before .before .before .before .before .before .before .next-token .ensures) (c .before .before .before .before .before .before .before .before .before .before .before .before .before .before .before .before .is-int .ensures) (c .before .before .before .before .before .before .before .before .before .before .before .before .before .before .before .if2 .left) (next-no _ _ _ _ _ _ _ _ _ _ _ _ (c .before .before .before .before .before .before .before .before .before .before .before .before .before .before .before .before .before .next-token .ensures) (c .before .before .before .before .before .before .before .before .before .before .before .before .before .before .is-const .ensures) (c .before .before .before .before .before .before .before .before .before .before .before .before .before .if3 .left) (next-no _ _ _ _ _ _ _ _ _ _ _ _ (c .before .before .before .before .before .before .before .before .before .before .before .before .before .before .before .before .before .next-token .ensures) (c .before .before .before .before .before .before .before .before .before .before .before .is-word .ensures) (c .before .before .before .before .before .before .before .before .before .before .if4 .left) (next-no _ _ _ _ _ _ _ _ _ _ _ _ (c .before .before .before .before .before .before .before .before .before .before .before .before .before .before .before .before .before .next-token .ensures) (c .before .before .before .before .before .before .before .before .is-word2 .ensures) (c .before .before .before .before .before .before .before .if5 .left) (next-yes _ _ _ _ _ _ _ _ _ _ _ _ (c .before .before .before .before .before .before .before .before .before .before .before .before .before .before .before .before .before .next-token .ensures) (c .before .before .before .before .before .is-word3 .ensures) (c .before .before .before .before .if6 .taken) (leaf-here _ _ _ _ _ _ _ _ (c .before .before .leaf-of3 .ensures))))))))
 
 parse-pattern-sub-parse-compound : (t : ℕ) → parse-pattern-lts.Need-sub-parse-compound (parse-pattern-calls t) (parse-pattern-at t) parse-pattern.Post
 parse-pattern-sub-parse-compound t c = search needs
 
 parse-pattern-parse-compound-requires : (t : ℕ) → parse-pattern-lts.Need-parse-compound-requires (parse-pattern-calls t) (parse-pattern-at t) parse-pattern.Post
-parse-pattern-parse-compound-requires t c κs = (omega arith, (search needs, search needs))
+parse-pattern-parse-compound-requires t c κs = (omega arith, (search ready-again, search needs))
 
 parse-pattern-same-length-6 : (t : ℕ) → parse-pattern-lts.Need-same-length-6 (parse-pattern-calls t) (parse-pattern-at t) parse-pattern.Post
 parse-pattern-same-length-6 t c = search needs
 
 parse-pattern-returns-7 : (t : ℕ) → parse-pattern-lts.Need-returns-7 (parse-pattern-calls t) (parse-pattern-at t) parse-pattern.Post
 unfolding patternIn
-parse-pattern-returns-7 t c = not-too-deep _ _ _ _ _ _ (c .before .before .before .before .before .before .before .before .before .before .before .before .before .before .before .before .before .before .if1 .left) (next-no _ _ _ _ _ _ _ _ _ _ _ _ (c .before .before .before .before .before .before .before .before .before .before .before .before .before .before .before .before .before .next-token .ensures) (c .before .before .before .before .before .before .before .before .before .before .before .before .before .before .before .before .is-int .ensures) (c .before .before .before .before .before .before .before .before .before .before .before .before .before .before .before .if2 .left) (next-no _ _ _ _ _ _ _ _ _ _ _ _ (c .before .before .before .before .before .before .before .before .before .before .before .before .before .before .before .before .before .next-token .ensures) (c .before .before .before .before .before .before .before .before .before .before .before .before .before .before .is-const .ensures) (c .before .before .before .before .before .before .before .before .before .before .before .before .before .if3 .left) (next-no _ _ _ _ _ _ _ _ _ _ _ _ (c .before .before .before .before .before .before .before .before .before .before .before .before .before .before .before .before .before .next-token .ensures) (c .before .before .before .before .before .before .before .before .before .before .before .is-word .ensures) (c .before .before .before .before .before .before .before .before .before .before .if4 .left) (next-no _ _ _ _ _ _ _ _ _ _ _ _ (c .before .before .before .before .before .before .before .before .before .before .before .before .before .before .before .before .before .next-token .ensures) (c .before .before .before .before .before .before .before .before .is-word2 .ensures) (c .before .before .before .before .before .before .before .if5 .left) (next-no _ _ _ _ _ _ _ _ _ _ _ _ (c .before .before .before .before .before .before .before .before .before .before .before .before .before .before .before .before .before .next-token .ensures) (c .before .before .before .before .before .is-word3 .ensures) (c .before .before .before .before .if6 .left) (c .before .before .parse-compound .ensures))))))
+parse-pattern-returns-7 t c = by-again _ _ _ _ _ _ (c .before .before .before .before .before .before .before .before .before .before .before .before .before .before .before .before .before .before .before .again .ensures) (not-too-deep _ _ _ _ _ _ (c .before .before .before .before .before .before .before .before .before .before .before .before .before .before .before .before .before .before .if1 .left) (next-no _ _ _ _ _ _ _ _ _ _ _ _ (c .before .before .before .before .before .before .before .before .before .before .before .before .before .before .before .before .before .next-token .ensures) (c .before .before .before .before .before .before .before .before .before .before .before .before .before .before .before .before .is-int .ensures) (c .before .before .before .before .before .before .before .before .before .before .before .before .before .before .before .if2 .left) (next-no _ _ _ _ _ _ _ _ _ _ _ _ (c .before .before .before .before .before .before .before .before .before .before .before .before .before .before .before .before .before .next-token .ensures) (c .before .before .before .before .before .before .before .before .before .before .before .before .before .before .is-const .ensures) (c .before .before .before .before .before .before .before .before .before .before .before .before .before .if3 .left) (next-no _ _ _ _ _ _ _ _ _ _ _ _ (c .before .before .before .before .before .before .before .before .before .before .before .before .before .before .before .before .before .next-token .ensures) (c .before .before .before .before .before .before .before .before .before .before .before .is-word .ensures) (c .before .before .before .before .before .before .before .before .before .before .if4 .left) (next-no _ _ _ _ _ _ _ _ _ _ _ _ (c .before .before .before .before .before .before .before .before .before .before .before .before .before .before .before .before .before .next-token .ensures) (c .before .before .before .before .before .before .before .before .is-word2 .ensures) (c .before .before .before .before .before .before .before .if5 .left) (next-no _ _ _ _ _ _ _ _ _ _ _ _ (c .before .before .before .before .before .before .before .before .before .before .before .before .before .before .before .before .before .next-token .ensures) (c .before .before .before .before .before .is-word3 .ensures) (c .before .before .before .before .if6 .left) (c .before .before .parse-compound .ensures)))))))
 
 abbrev parse-patterns-calls : ℕ → parse-patterns-lts.Claims
 parse-patterns-calls t =
@@ -460,9 +464,8 @@ pub +parse-and+parse-bind+parse-compound+parse-pattern+parse-patterns+parse-term
     (λ t. parse-compound-lts.spec (parse-compound-calls t)
     (parse-compound-at t)
     parse-compound.Post
-    (parse-compound-second-token-requires t)
     (parse-compound-is-symbol-requires t)
-    (parse-compound-is-at-requires t)
+    (parse-compound-second-kind-requires t)
     (parse-compound-parse-bind-requires t)
     (parse-compound-same-length t)
     (parse-compound-returns t)
@@ -470,6 +473,7 @@ pub +parse-and+parse-bind+parse-compound+parse-pattern+parse-patterns+parse-term
     (parse-compound-same-length-2 t)
     (parse-compound-returns-2 t)
     (parse-compound-is-lparen-requires t)
+    (parse-compound-second-token-requires t)
     (parse-compound-slice-aggregate-is-word t)
     (parse-compound-is-word-requires t)
     (parse-compound-parse-and-requires t)
@@ -483,6 +487,7 @@ pub +parse-and+parse-bind+parse-compound+parse-pattern+parse-patterns+parse-term
     (λ t. parse-pattern-lts.spec (parse-pattern-calls t)
     (parse-pattern-at t)
     parse-pattern.Post
+    (parse-pattern-again-requires t)
     (parse-pattern-refuse-at-requires t)
     (parse-pattern-returns t)
     (parse-pattern-next-token-requires t)

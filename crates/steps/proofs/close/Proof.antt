@@ -9,6 +9,9 @@ enum-known-p c = search needs
 enum-told : tie.Need-enum-told
 enum-told c = search needs
 
+again-requires : tie.Need-again-requires
+again-requires c κs = search needs
+
 returns : tie.Need-returns
 returns c = search closed-outer
 
@@ -17,6 +20,9 @@ enum-known-q c = search needs
 
 enum-told-2 : tie.Need-enum-told-2
 enum-told-2 c = search needs
+
+again-requires-2 : tie.Need-again-requires-2
+again-requires-2 c κs = search needs
 
 returns-2 : tie.Need-returns-2
 returns-2 c = search closed-inner
@@ -42,9 +48,10 @@ close-spec =
     (tie.spec
     enum-known-p
     enum-told
-    returns
+    again-requires returns
     enum-known-q
     enum-told-2
+    again-requires-2
     returns-2
     cast-t13
     emit-at-requires

@@ -1,45 +1,13 @@
-use Rattle.steps.proofs.StepLaws.{moved-stays, at-fits, expect-met, expect-refused}
+use Rattle.steps.proofs.StepLaws.{expect-at-is}
 use borrow.Author.Needs.{needs}
 use Rattle.steps.proofs.expect_at.Statement.{statement}
 use Rattle.steps.proofs.expect_at.Tie as tie
 
-enum-known-p : tie.Need-enum-known-p
-enum-known-p c = search needs
-
-enum-told : tie.Need-enum-told
-enum-told c = search needs
+expect-kind-requires : tie.Need-expect-kind-requires
+expect-kind-requires c κs = search needs
 
 returns : tie.Need-returns
-returns c = search moved-stays
-
-peek-requires : tie.Need-peek-requires
-peek-requires c κs = search needs
-
-is-at-requires : tie.Need-is-at-requires
-is-at-requires c κs = search needs
-
-after-requires : tie.Need-after-requires
-after-requires c κs = search at-fits
-
-returns-2 : tie.Need-returns-2
-returns-2 c = search expect-met
-
-unexpected-requires : tie.Need-unexpected-requires
-unexpected-requires c κs = search needs
-
-returns-3 : tie.Need-returns-3
-returns-3 c = search expect-refused
+returns c = search expect-at-is
 
 pub expect-at-spec : {M : Type 1} → statement M
-expect-at-spec =
-    tie.close
-    (tie.spec
-    enum-known-p
-    enum-told
-    returns
-    peek-requires
-    is-at-requires
-    after-requires
-    returns-2
-    unexpected-requires
-    returns-3)
+expect-at-spec = tie.close (tie.spec expect-kind-requires returns)

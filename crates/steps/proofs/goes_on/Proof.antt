@@ -12,15 +12,11 @@ enum-told c = search needs
 returns : tie.Need-returns
 returns c = search ends-refused
 
-peek-requires : tie.Need-peek-requires
-peek-requires c κs = search needs
-
-is-rparen-requires : tie.Need-is-rparen-requires
-is-rparen-requires c κs = search needs
+kind-at-requires : tie.Need-kind-at-requires
+kind-at-requires c κs = search needs
 
 returns-2 : tie.Need-returns-2
 returns-2 c = search goes-on-is
 
 pub goes-on-spec : {M : Type 1} → statement M
-goes-on-spec =
-    tie.close (tie.spec enum-known-p enum-told returns peek-requires is-rparen-requires returns-2)
+goes-on-spec = tie.close (tie.spec enum-known-p enum-told returns kind-at-requires returns-2)

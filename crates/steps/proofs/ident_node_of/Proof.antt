@@ -1,7 +1,6 @@
-use native.Mathlib.Omega.{arith}
-use Rattle.steps.proofs.StepLaws.{token-inside}
+use Rattle.steps.proofs.StepLaws.{node-stays, name-inside}
 use Rattle.steps.proofs.MetLaws.{node-read}
-use Rattle.steps.proofs.SizeLaws.{near-ready, small-after, ready-inside, ident-steady}
+use Rattle.steps.proofs.SizeLaws.{near-ready, inside-below, name-small}
 use borrow.Author.Needs.{needs}
 use Rattle.steps.proofs.ident_node_of.Statement.{statement}
 use Rattle.steps.proofs.ident_node_of.Tie as tie
@@ -9,18 +8,40 @@ use Rattle.steps.proofs.ident_node_of.Tie as tie
 inside-requires : tie.Need-inside-requires
 inside-requires c κs = search near-ready
 
-ident-of-requires : tie.Need-ident-of-requires
-ident-of-requires c κs = (search (ready-inside 3 4 (omega arith) (omega arith)), search token-inside)
+enum-known-children : tie.Need-enum-known-children
+enum-known-children c = search needs
+
+enum-told : tie.Need-enum-told
+enum-told c = search needs
+
+again-requires : tie.Need-again-requires
+again-requires c κs = search needs
+
+returns : tie.Need-returns
+returns c = search node-stays
+
+put-name-requires : tie.Need-put-name-requires
+put-name-requires c κs = search inside-below
 
 close-of-requires : tie.Need-close-of-requires
-close-of-requires c κs = (search near-ready, (search (small-after 4, ident-steady, ready-inside 3 4 (omega arith) (omega arith)), search needs))
+close-of-requires c κs = (search near-ready, (search name-small, search needs))
 
 same-length : tie.Need-same-length
 same-length c = search needs
 
-returns : tie.Need-returns
-returns c = search node-read
+returns-2 : tie.Need-returns-2
+returns-2 c = search (node-read, name-inside)
 
 pub ident-node-of-spec : {M : Type 1} → statement M
 ident-node-of-spec =
-    tie.close (tie.spec inside-requires ident-of-requires close-of-requires same-length returns)
+    tie.close
+    (tie.spec
+    inside-requires
+    enum-known-children
+    enum-told
+    again-requires
+    returns
+    put-name-requires
+    close-of-requires
+    same-length
+    returns-2)

@@ -1,4 +1,4 @@
-use Rattle.steps.proofs.StepLaws.{stays, ready-below, token-here, ident-read, ident-other}
+use Rattle.steps.proofs.StepLaws.{stays, ready-below, token-here, ident-named, told, ident-other}
 use borrow.Author.Needs.{needs}
 use Rattle.steps.proofs.ident_of.Statement.{statement}
 use Rattle.steps.proofs.ident_of.Tie as tie
@@ -9,26 +9,23 @@ enum-known-p c = search needs
 enum-told : tie.Need-enum-told
 enum-told c = search needs
 
+again-requires : tie.Need-again-requires
+again-requires c κs = search needs
+
 returns : tie.Need-returns
 returns c = search stays
 
 is-symbol-requires : tie.Need-is-symbol-requires
 is-symbol-requires c κs = search needs
 
-spelling-requires : tie.Need-spelling-requires
-spelling-requires c κs = search needs
-
-ident-refusal-requires : tie.Need-ident-refusal-requires
-ident-refusal-requires c κs = search needs
-
-put-ident-requires : tie.Need-put-ident-requires
-put-ident-requires c κs = search ready-below
+put-name-requires : tie.Need-put-name-requires
+put-name-requires c κs = search ready-below
 
 same-length : tie.Need-same-length
 same-length c = search needs
 
 returns-2 : tie.Need-returns-2
-returns-2 c = search (ident-read, token-here)
+returns-2 c = search (ident-named, told, token-here)
 
 unexpected-requires : tie.Need-unexpected-requires
 unexpected-requires c κs = search needs
@@ -42,11 +39,10 @@ ident-of-spec =
     (tie.spec
     enum-known-p
     enum-told
+    again-requires
     returns
     is-symbol-requires
-    spelling-requires
-    ident-refusal-requires
-    put-ident-requires
+    put-name-requires
     same-length
     returns-2
     unexpected-requires

@@ -9,6 +9,9 @@ enum-known-p c = search needs
 enum-told : tie.Need-enum-told
 enum-told c = search needs
 
+again-requires : tie.Need-again-requires
+again-requires c κs = search needs
+
 returns : tie.Need-returns
 returns c = search inside-stays
 
@@ -19,4 +22,4 @@ returns-2 : tie.Need-returns-2
 returns-2 c = search inside-is
 
 pub inside-spec : {M : Type 1} → statement M
-inside-spec = tie.close (tie.spec enum-known-p enum-told returns add-t4 returns-2)
+inside-spec = tie.close (tie.spec enum-known-p enum-told again-requires returns add-t4 returns-2)

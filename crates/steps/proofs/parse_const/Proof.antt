@@ -1,4 +1,4 @@
-use Rattle.steps.proofs.StepLaws.{stays, ready-below, next-fits, const-fits, const-read, const-refused, const-other}
+use Rattle.steps.proofs.StepLaws.{stays, ready-below, ready-short, const-named, told, const-other}
 use borrow.Author.Needs.{needs}
 use Rattle.steps.proofs.parse_const.Statement.{statement}
 use Rattle.steps.proofs.parse_const.Tie as tie
@@ -9,6 +9,9 @@ enum-known-p c = search needs
 enum-told : tie.Need-enum-told
 enum-told c = search needs
 
+again-requires : tie.Need-again-requires
+again-requires c κs = search needs
+
 returns : tie.Need-returns
 returns c = search stays
 
@@ -18,35 +21,20 @@ peek-requires c κs = search needs
 is-symbol-requires : tie.Need-is-symbol-requires
 is-symbol-requires c κs = search needs
 
-spelling-requires : tie.Need-spelling-requires
-spelling-requires c κs = search needs
-
-const-refusal-requires : tie.Need-const-refusal-requires
-const-refusal-requires c κs = search needs
-
-add-put-ident : tie.Need-add-put-ident
-add-put-ident c = search const-fits
-
-put-ident-requires : tie.Need-put-ident-requires
-put-ident-requires c κs = search ready-below
+put-const-requires : tie.Need-put-const-requires
+put-const-requires c κs = (search ready-below, search ready-short)
 
 same-length : tie.Need-same-length
 same-length c = search needs
 
 returns-2 : tie.Need-returns-2
-returns-2 c = search const-read
-
-after-requires : tie.Need-after-requires
-after-requires c κs = search next-fits
-
-returns-3 : tie.Need-returns-3
-returns-3 c = search const-refused
+returns-2 c = search (const-named, told)
 
 unexpected-requires : tie.Need-unexpected-requires
 unexpected-requires c κs = search needs
 
-returns-4 : tie.Need-returns-4
-returns-4 c = search const-other
+returns-3 : tie.Need-returns-3
+returns-3 c = search const-other
 
 pub parse-const-spec : {M : Type 1} → statement M
 parse-const-spec =
@@ -54,16 +42,12 @@ parse-const-spec =
     (tie.spec
     enum-known-p
     enum-told
+    again-requires
     returns
     peek-requires
     is-symbol-requires
-    spelling-requires
-    const-refusal-requires
-    add-put-ident
-    put-ident-requires
+    put-const-requires
     same-length
     returns-2
-    after-requires
-    returns-3
     unexpected-requires
-    returns-4)
+    returns-3)

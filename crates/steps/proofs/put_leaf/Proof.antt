@@ -9,6 +9,9 @@ enum-known-p c = search needs
 enum-told : tie.Need-enum-told
 enum-told c = search needs
 
+again-requires : tie.Need-again-requires
+again-requires c κs = search needs
+
 returns : tie.Need-returns
 returns c = search leafed-stays
 
@@ -30,4 +33,4 @@ returns-2 c = search leafed-put
 pub put-leaf-spec : {M : Type 1} → statement M
 put-leaf-spec =
     tie.close
-    (tie.spec enum-known-p enum-told returns after-requires add-t10 close-requires same-length returns-2)
+    (tie.spec enum-known-p enum-told again-requires returns after-requires add-t10 close-requires same-length returns-2)
