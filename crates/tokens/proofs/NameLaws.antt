@@ -1,5 +1,5 @@
 -- Laws of names: their bytes in the text, and what the tests of characters go by. Assumes nothing.
-use Prim.Native.Nat.{ℕ, zero, suc, _+_, _-_, _*_, _/_, _%_, _<_, _≤_, min}
+use Prim.Native.Nat.{ℕ, zero, suc, _+_, _-_, _*_, _/_, _%_, _<_, _≤_, min, max}
 use native.Mathlib.Omega.{arith}
 use native.Mathlib.Numerals.{add-one, unary-clauses}
 use mathlib.Core.Path.{_≡_, refl, sym, ap, _∙_}
@@ -7,10 +7,11 @@ use mathlib.Core.List.{List, [], _∷_}
 use mathlib.Core.Bool.{Bool, true, false, _&&_, _||_}
 use lib.ListN.{length, getD, take, drop, drop-of-length-le, length-drop}
 use lib.Seq.{drop-cons, take-nil, drop-nil}
-use lib.Dec.{leb, eqb}
-use borrow.Author.Tests.{le-leb, lt-leb, eq-eqb, ne-eqb}
+use lib.Dec.{ltb, leb, eqb}
+use borrow.Author.Tests.{lt-ltb, le-ltb, le-leb, lt-leb, eq-eqb, ne-eqb}
+use Rattle.trees.specs.Choice.{pick}
 use Rattle.trees.specs.Names.{spelled}
-use Rattle.tokens.specs.Ident.{letter, starts, goesOn, allGoOn, laterRefusal, identRefusal}
+use Rattle.tokens.specs.Ident.{letter, starts, goesOn, allGoOn, identRefusal}
 
 -- letters
 pub letter-low : (c : ℕ) → c < 65 → false ≡ letter c
@@ -57,6 +58,41 @@ pub on-digit : (c : ℕ) (r : Bool) → r ≡ starts c → r ≡ false → (c �
 unfolding goesOn
 on-digit c r p q e h = simp (sym p, q, ne-eqb c 46 e, le-leb 48 c h)
 
+-- the same tests as 1 and 0, where `max` is `or`
+abbrev bit : Bool → ℕ
+bit b = pick b 1 0
+
+pub within-low : (a c b : ℕ) → c < a → 0 ≡ bit (leb a c && leb c b)
+within-low a c b h = rw (lt-leb a c h)
+
+pub within-high : (a c b : ℕ) → a ≤ c → b < c → 0 ≡ bit (leb a c && leb c b)
+within-high a c b h k = rw (le-leb a c h, lt-leb c b k)
+
+pub within-both : (a c b : ℕ) → a ≤ c → c ≤ b → 1 ≡ bit (leb a c && leb c b)
+within-both a c b h k = rw (le-leb a c h, le-leb c b k)
+
+pub equals-same : (c d : ℕ) → c ≡ d → 1 ≡ bit (eqb c d)
+equals-same c d e = rw (eq-eqb c d e)
+
+pub equals-other : (c d : ℕ) → (c ≡ d → ⊥) → 0 ≡ bit (eqb c d)
+equals-other c d e = rw (ne-eqb c d e)
+
+either : (a b : Bool) (x y z : ℕ) → x ≡ bit a → y ≡ bit b → z ≡ max x y → z ≡ bit (a || b)
+either true true x y z p q r = omega arith
+either true false x y z p q r = omega arith
+either false true x y z p q r = omega arith
+either false false x y z p q r = omega arith
+
+pub begins-is : (c u l w v d e r : ℕ) → u ≡ bit (leb 65 c && leb c 90) → l ≡ bit (leb 97 c && leb c 122) → w ≡ max u l → v ≡ bit (eqb c 95) → d ≡ bit (eqb c 36) → e ≡ max v d → r ≡ max w e → r ≡ bit (starts c)
+unfolding starts letter
+begins-is c u l w v d e r hu hl hw hv hd he hr =
+    either (letter c) (eqb c 95 || eqb c 36) w e r (either (leb 65 c && leb c 90) (leb 97 c && leb c 122) u l w hu hl hw) (either (eqb c 95) (eqb c 36) v d e hv hd he) hr
+
+pub follows-is : (c b p d e r : ℕ) → b ≡ bit (starts c) → p ≡ bit (eqb c 46) → d ≡ bit (leb 48 c && leb c 57) → e ≡ max p d → r ≡ max b e → r ≡ bit (goesOn c)
+unfolding goesOn
+follows-is c b p d e r hb hp hd he hr =
+    either (starts c) (eqb c 46 || (leb 48 c && leb c 57)) b e r hb (either (eqb c 46) (leb 48 c && leb c 57) p d e hp hd he) hr
+
 -- the first byte
 pub no-first : (s : List ℕ) → length s ≤ 0 → 0 ≡ getD s 0 0
 no-first [] h = refl
@@ -79,6 +115,43 @@ spelled-is text p range from m a b e =
     let n : from + m - from ≡ m = omega arith in
     e ∙ rw (n, b, ← length-drop from text, cut-take (range % 4294967296) (drop from text), a, cut-drop (range / 4294967296) text)
 
+-- the two loops over a name's bytes: what is left is judged as the whole
+module _ (s : List ℕ) (i : ℕ) (q : allGoOn s ≡ allGoOn (drop i s)) where
+  pub short-on : (r : Bool) → i < length s → r ≡ goesOn (getD s i 0) → r ≡ true → allGoOn s ≡ allGoOn (drop (i + 1) s)
+  unfolding allGoOn
+  short-on r h p t = q ∙ rw (add-one, drop-cons s i 0 h, sym p, t)
+
+  pub short-bad : (r : Bool) → i < length s → r ≡ goesOn (getD s i 0) → r ≡ false → false ≡ allGoOn s
+  unfolding allGoOn
+  short-bad r h p t = sym (q ∙ rw (drop-cons s i 0 h, sym p, t))
+
+  pub short-end : length s ≤ i → true ≡ allGoOn s
+  unfolding allGoOn
+  short-end h = sym (q ∙ rw (drop-of-length-le s h))
+
+-- the lowest so far tells of all before i
+abbrev pub goOnFrom : ℕ → List ℕ → Bool
+goOnFrom h s = pick (ltb 0 h) (allGoOn s) false
+
+both-follow : (h : ℕ) (b x : Bool) → pick (ltb 0 h) (b && x) false ≡ pick (ltb 0 (min (bit b) h)) x false
+both-follow zero true x = refl
+both-follow zero false x = refl
+both-follow (suc h) true x = rw (lt-ltb 0 (min 1 (suc h)) (omega arith), lt-ltb 0 (suc h) (omega arith))
+both-follow (suc h) false x = rw (le-ltb 0 (min 0 (suc h)) (omega arith), lt-ltb 0 (suc h) (omega arith))
+
+last : (b : Bool) → pick b true false ≡ b
+last true = refl
+last false = refl
+
+module _ (s : List ℕ) (i h : ℕ) (q : allGoOn s ≡ goOnFrom h (drop i s)) where
+  pub long-on : (f g : ℕ) → i < length s → f ≡ bit (goesOn (getD s i 0)) → g ≡ min f h → allGoOn s ≡ goOnFrom g (drop (i + 1) s)
+  unfolding allGoOn
+  long-on f g l p e = q ∙ rw (add-one, drop-cons s i 0 l, e, p) (both-follow h (goesOn (getD s i 0)) (allGoOn (drop (suc i) s)))
+
+  pub long-end : length s ≤ i → ltb 0 h ≡ allGoOn s
+  unfolding allGoOn
+  long-end l = sym (q ∙ rw (drop-of-length-le s l) (last (ltb 0 h)))
+
 -- an identifier
 pub ident-empty : (s : List ℕ) → length s ≡ 0 → 13 ≡ identRefusal s
 unfolding identRefusal
@@ -90,19 +163,17 @@ unfolding identRefusal
 ident-first [] r h p q = absurd (h refl)
 ident-first (c ∷ cs) r h p q = simp (sym p, q)
 
-pub ident-rest : (s : List ℕ) (r : Bool) → (length s ≡ 0 → ⊥) → r ≡ starts (getD s 0 0) → r ≡ true → identRefusal s ≡ laterRefusal (drop 1 s)
+-- what may start may follow, so the first byte may be judged with the others
+starts-on : (c : ℕ) (cs : List ℕ) → starts c ≡ true → allGoOn (c ∷ cs) ≡ allGoOn cs
+unfolding goesOn allGoOn
+starts-on c cs e = rw e
+
+pub ident-good : (s : List ℕ) (r q : Bool) → (length s ≡ 0 → ⊥) → r ≡ starts (getD s 0 0) → r ≡ true → q ≡ allGoOn s → q ≡ true → 0 ≡ identRefusal s
 unfolding identRefusal
-ident-rest [] r h p q = absurd (h refl)
-ident-rest (c ∷ cs) r h p q = simp (sym p, q)
+ident-good [] r q h p t e f = absurd (h refl)
+ident-good (c ∷ cs) r q h p t e f = rw (sym p, t, ← starts-on c cs (sym p ∙ t), sym e, f)
 
-pub later-on : (x : ℕ) (s : List ℕ) (i : ℕ) (r : Bool) → x ≡ laterRefusal (drop i s) → i < length s → r ≡ goesOn (getD s i 0) → r ≡ true → x ≡ laterRefusal (drop (i + 1) s)
-unfolding allGoOn
-later-on x s i r e h p q = e ∙ rw (add-one, drop-cons s i 0 h, sym p, q)
-
-pub later-bad : (x : ℕ) (s : List ℕ) (i : ℕ) (r : Bool) → x ≡ laterRefusal (drop i s) → i < length s → r ≡ goesOn (getD s i 0) → r ≡ false → 15 ≡ x
-unfolding allGoOn
-later-bad x s i r e h p q = sym (e ∙ rw (drop-cons s i 0 h, sym p, q))
-
-pub later-end : (x : ℕ) (s : List ℕ) (i : ℕ) → x ≡ laterRefusal (drop i s) → length s ≤ i → 0 ≡ x
-unfolding allGoOn
-later-end x s i e h = sym (e ∙ rw (drop-of-length-le s h))
+pub ident-bad : (s : List ℕ) (r q : Bool) → (length s ≡ 0 → ⊥) → r ≡ starts (getD s 0 0) → r ≡ true → q ≡ allGoOn s → q ≡ false → 15 ≡ identRefusal s
+unfolding identRefusal
+ident-bad [] r q h p t e f = absurd (h refl)
+ident-bad (c ∷ cs) r q h p t e f = rw (sym p, t, ← starts-on c cs (sym p ∙ t), sym e, f)

@@ -1,17 +1,12 @@
 // A lent token list: the first record that is no good token (refusal 2).
+use crate::names::greater;
 use crate::names::spelling;
 use words::word;
 ghost use mathlib.Core.Path.{_≡_};
-ghost use Prim.Native.Nat.{ℕ, _+_, _*_, _≤_, _<_, max};
+ghost use Prim.Native.Nat.{ℕ, _+_, _*_, _≤_, _<_};
 ghost use lib.ListN.{length};
 ghost use Rattle.tokens.specs.Token.{tokenCount};
 ghost use Rattle.tokens.specs.Lent.{ascii, reach, goodValue, goodWords, goodToken, firstBad};
-
-fn greater(a: u8, b: u8) -> u8
-    ensures { λ r. ⌜ r ≡ max a b ⌝ }
-{
-    if a < b { b } else { a }
-}
 
 // Whether all bytes are below 128. It goes on to the end in any case, so that the compiler takes many bytes at once.
 fn is_ascii(s: &[u8]) -> bool

@@ -1,14 +1,29 @@
 // Names: their bytes in the text, and which are identifiers.
 ghost use mathlib.Core.Path.{_≡_};
-ghost use Prim.Native.Nat.{ℕ, _+_, _≤_, _<_, min};
+ghost use Prim.Native.Nat.{ℕ, _+_, _≤_, _<_, min, max};
+ghost use mathlib.Core.Bool.{_&&_};
 ghost use lib.ListN.{length, getD};
+ghost use lib.Dec.{leb, eqb};
+ghost use Rattle.trees.specs.Choice.{pick};
 ghost use Rattle.trees.specs.Names.{spelled};
-ghost use Rattle.tokens.specs.Ident.{letter, starts, goesOn, identRefusal};
+ghost use Rattle.tokens.specs.Ident.{letter, starts, goesOn, allGoOn, identRefusal};
 
 fn least(a: usize, b: usize) -> usize
     ensures { λ r. ⌜ r ≡ min a b ⌝ }
 {
     if a < b { a } else { b }
+}
+
+fn lower(a: u8, b: u8) -> u8
+    ensures { λ r. ⌜ r ≡ min a b ⌝ }
+{
+    if a < b { a } else { b }
+}
+
+pub fn greater(a: u8, b: u8) -> u8
+    ensures { λ r. ⌜ r ≡ max a b ⌝ }
+{
+    if a < b { b } else { a }
 }
 
 // The bytes of the text at a range, start * 2^32 + length; what lies past the text's end is left out.
@@ -71,7 +86,69 @@ fn may_follow(c: u8) -> bool
     c <= b'9'
 }
 
-// str_to_ident of the Rust: 0 where s is an identifier, and otherwise the refusal.
+// 1 where low <= c <= high, and otherwise 0.
+fn within(low: u8, c: u8, high: u8) -> u8
+    ensures { λ r. ⌜ r ≡ pick (leb low c && leb c high) 1 0 ⌝ }
+{
+    if c < low {
+        return 0;
+    }
+    if high < c {
+        return 0;
+    }
+    1
+}
+
+fn equals(c: u8, d: u8) -> u8
+    ensures { λ r. ⌜ r ≡ pick (eqb c d) 1 0 ⌝ }
+{
+    if c == d { 1 } else { 0 }
+}
+
+fn begins(c: u8) -> u8
+    ensures { λ r. ⌜ r ≡ pick (starts c) 1 0 ⌝ }
+{
+    let letter = greater(within(b'A', c, b'Z'), within(b'a', c, b'z'));
+    greater(letter, greater(equals(c, b'_'), equals(c, b'$')))
+}
+
+// may_follow as 1 or 0, without a branch of its own.
+fn follows(c: u8) -> u8
+    ensures { λ r. ⌜ r ≡ pick (goesOn c) 1 0 ⌝ }
+{
+    greater(begins(c), greater(equals(c, b'.'), within(b'0', c, b'9')))
+}
+
+// There are two loops for one question. This one is for long names: it goes on to the end in any case, so that the compiler
+// takes many bytes at once.
+fn all_follow(s: &[u8]) -> bool
+    ensures { λ r. ⌜ r ≡ allGoOn (now (s .entry)) ⌝ }
+{
+    let mut lowest = 1;
+    let mut i = 0;
+    while i < s.len() {
+        lowest = lower(follows(s[i]), lowest);
+        i += 1;
+    }
+    0 < lowest
+}
+
+// And this one is for short names, where many at once do not pay: the first wrong byte ends it.
+fn all_follow_short(s: &[u8]) -> bool
+    ensures { λ r. ⌜ r ≡ allGoOn (now (s .entry)) ⌝ }
+{
+    let mut i = 0;
+    while i < s.len() {
+        if !may_follow(s[i]) {
+            return false;
+        }
+        i += 1;
+    }
+    true
+}
+
+// str_to_ident of the Rust: 0 where s is an identifier, and otherwise the refusal. A byte that may start may follow too, so
+// the first one is asked again with the others.
 pub fn ident_refusal(s: &[u8]) -> u8
     ensures { λ r. ⌜ r ≡ identRefusal (now (s .entry)) ⌝ }
 {
@@ -81,12 +158,9 @@ pub fn ident_refusal(s: &[u8]) -> u8
     if !may_start(s[0]) {
         return 14;
     }
-    let mut i = 1;
-    while i < s.len() {
-        if !may_follow(s[i]) {
-            return 15;
-        }
-        i += 1;
+    if s.len() < 24 {
+        if all_follow_short(s) { 0 } else { 15 }
+    } else {
+        if all_follow(s) { 0 } else { 15 }
     }
-    0
 }
