@@ -1,14 +1,14 @@
 -- Laws of names: their bytes in the text, and what the tests of characters go by. Assumes nothing.
-use Prim.Native.Nat.{ℕ, zero, suc, _+_, _-_, _*_, _/_, _%_, _<_, _≤_, min, max}
+use Prim.Native.Nat.{ℕ, zero, suc, _+_, _-_, _*_, _/_, _%_, _^_, _<_, _≤_, min, max}
 use native.Mathlib.Omega.{arith}
 use native.Mathlib.Numerals.{add-one, unary-clauses}
 use mathlib.Core.Path.{_≡_, refl, sym, ap, _∙_}
 use mathlib.Core.List.{List, [], _∷_}
-use mathlib.Core.Bool.{Bool, true, false, _&&_, _||_}
+use mathlib.Core.Bool.{Bool, true, false, false≢true, _&&_, _||_}
 use lib.ListN.{length, getD, take, drop, drop-of-length-le, length-drop}
 use lib.Seq.{drop-cons, take-nil, drop-nil}
 use lib.Dec.{ltb, leb, eqb}
-use borrow.Author.Tests.{lt-ltb, le-ltb, le-leb, lt-leb, eq-eqb, ne-eqb}
+use borrow.Author.Tests.{lt-ltb, le-ltb, le-leb, lt-leb, eq-eqb, ne-eqb, eqb-true, eqb-false}
 use Rattle.trees.specs.Choice.{pick}
 use Rattle.trees.specs.Names.{spelled}
 use Rattle.tokens.specs.Ident.{letter, starts, goesOn, allGoOn, identRefusal}
@@ -42,21 +42,53 @@ pub starts-dollar : (c : ℕ) (r : Bool) → r ≡ letter c → r ≡ false → 
 unfolding starts
 starts-dollar c r p q e = simp (sym p, q, ne-eqb c 95 e)
 
-pub on-starts : (c : ℕ) (r : Bool) → r ≡ starts c → r ≡ true → true ≡ goesOn c
-unfolding goesOn
-on-starts c r p q = simp (sym p, q)
+-- what may follow, by the mask: both are computed for each byte below 128
+abbrev same : Bool → Bool → Bool
+same a b = pick a b (pick b false true)
 
-pub on-dot : (c : ℕ) (r : Bool) → r ≡ starts c → r ≡ false → c ≡ 46 → true ≡ goesOn c
-unfolding goesOn
-on-dot c r p q e = simp (sym p, q, eq-eqb c 46 e)
+same-true : (a b : Bool) → same a b ≡ true → a ≡ b
+same-true true true e = refl
+same-true true false e = absurd (false≢true e)
+same-true false true e = absurd (false≢true e)
+same-true false false e = refl
 
-pub on-low : (c : ℕ) (r : Bool) → r ≡ starts c → r ≡ false → (c ≡ 46 → ⊥) → c < 48 → false ≡ goesOn c
-unfolding goesOn
-on-low c r p q e h = simp (sym p, q, ne-eqb c 46 e, lt-leb 48 c h)
+abbrev maskOf : ℕ → ℕ
+maskOf c = pick (ltb c 64) 288019338638655488 576460745995190270
 
-pub on-digit : (c : ℕ) (r : Bool) → r ≡ starts c → r ≡ false → (c ≡ 46 → ⊥) → 48 ≤ c → leb c 57 ≡ goesOn c
-unfolding goesOn
-on-digit c r p q e h = simp (sym p, q, ne-eqb c 46 e, le-leb 48 c h)
+abbrev masked : ℕ → Bool
+masked c = eqb (maskOf c / 2 ^ (c % 64) % 2) 1
+
+sameBelow : ℕ → Bool
+sameBelow zero = true
+sameBelow (suc n) = pick (same (masked n) (goesOn n)) (sameBelow n) false
+
+same-all : sameBelow 128 ≡ true
+unfolding sameBelow goesOn starts letter
+same-all = refl
+
+same-at : (n c : ℕ) → c < n → sameBelow n ≡ true → masked c ≡ goesOn c
+unfolding sameBelow
+same-at zero c h e = absurd (omega arith)
+same-at (suc n) c h e = go (same (masked n) (goesOn n)) (eqb c n) refl refl e (λ k. same-at n c k)
+  where
+    go : (a b : Bool) → same (masked n) (goesOn n) ≡ a → eqb c n ≡ b → pick a (sameBelow n) false ≡ true → (c < n → sameBelow n ≡ true → masked c ≡ goesOn c) → masked c ≡ goesOn c
+    go false b p q r f = absurd (false≢true r)
+    go true true p q r f = rw (eqb-true c n q) (same-true (masked n) (goesOn n) p)
+    go true false p q r f = f (omega (arith, eqb-false c n q)) r
+
+pub mask-low : (c : ℕ) → c < 64 → 288019338638655488 ≡ maskOf c
+mask-low c h = rw (lt-ltb c 64 h)
+
+pub mask-high : (c : ℕ) → 64 ≤ c → 576460745995190270 ≡ maskOf c
+mask-high c h = rw (le-ltb c 64 h)
+
+pub on-mask : (c m : ℕ) → c ≤ 127 → m ≡ maskOf c → eqb (m / 2 ^ (c % 64) % 2) 1 ≡ goesOn c
+on-mask c m h e = rw e (same-at 128 c (omega arith) same-all)
+
+pub on-past : (c : ℕ) → 127 < c → false ≡ goesOn c
+unfolding goesOn starts letter
+on-past c h =
+    simp (le-leb 65 c (omega arith), lt-leb c 90 (omega arith), le-leb 97 c (omega arith), lt-leb c 122 (omega arith), ne-eqb c 95 (λ e. omega arith), ne-eqb c 36 (λ e. omega arith), ne-eqb c 46 (λ e. omega arith), le-leb 48 c (omega arith), lt-leb c 57 (omega arith))
 
 -- the same tests as 1 and 0, where `max` is `or`
 abbrev bit : Bool → ℕ

@@ -3,7 +3,7 @@ ghost use mathlib.Core.Path.{_≡_};
 ghost use Prim.Native.Nat.{ℕ, _+_, _≤_, _<_, min, max};
 ghost use mathlib.Core.Bool.{_&&_};
 ghost use lib.ListN.{length, getD};
-ghost use lib.Dec.{leb, eqb};
+ghost use lib.Dec.{ltb, leb, eqb};
 ghost use Rattle.trees.specs.Choice.{pick};
 ghost use Rattle.trees.specs.Names.{spelled};
 ghost use Rattle.tokens.specs.Ident.{letter, starts, goesOn, allGoOn, identRefusal};
@@ -71,22 +71,27 @@ fn may_start(c: u8) -> bool
     c == b'$'
 }
 
+// Which bytes below 128 may follow in a name: bit c % 64 of the first number tells of c below 64, and of the second from 64 on.
+fn mask(c: u8) -> u64
+    ensures { λ r. ⌜ r ≡ pick (ltb c 64) 288019338638655488 576460745995190270 ⌝ }
+{
+    if c < 64 {
+        288019338638655488
+    } else {
+        576460745995190270
+    }
+}
+
 fn may_follow(c: u8) -> bool
     ensures { λ r. ⌜ r ≡ goesOn c ⌝ }
 {
-    if may_start(c) {
-        return true;
-    }
-    if c == b'.' {
-        return true;
-    }
-    if c < b'0' {
+    if 127 < c {
         return false;
     }
-    c <= b'9'
+    (mask(c) >> (c % 64)) % 2 == 1
 }
 
-// 1 where low <= c <= high, and otherwise 0.
+// These four answer with 1 or 0 and are joined by `greater`, so that the compiler has no branch to make.
 fn within(low: u8, c: u8, high: u8) -> u8
     ensures { λ r. ⌜ r ≡ pick (leb low c && leb c high) 1 0 ⌝ }
 {
@@ -112,7 +117,6 @@ fn begins(c: u8) -> u8
     greater(letter, greater(equals(c, b'_'), equals(c, b'$')))
 }
 
-// may_follow as 1 or 0, without a branch of its own.
 fn follows(c: u8) -> u8
     ensures { λ r. ⌜ r ≡ pick (goesOn c) 1 0 ⌝ }
 {
@@ -120,7 +124,7 @@ fn follows(c: u8) -> u8
 }
 
 // There are two loops for one question. This one is for long names: it goes on to the end in any case, so that the compiler
-// takes many bytes at once.
+// takes many bytes at once. (It does not with the operands of `lower` the other way round.)
 fn all_follow(s: &[u8]) -> bool
     ensures { λ r. ⌜ r ≡ allGoOn (now (s .entry)) ⌝ }
 {
