@@ -1,7 +1,8 @@
 // Declarations, externs, extractors, converters and pragmas.
 use patterns::parse_pattern;
+use reader::peek;
 use steps::Parsed;
-use steps::ate;
+use steps::ate_of;
 use steps::close_at;
 use steps::eat;
 use steps::eaten_second;
@@ -15,6 +16,7 @@ use steps::parse_ident;
 use steps::parse_idents;
 use steps::parse_pragma_name;
 use steps::refuse_at;
+use steps::token_after;
 use trees::Head;
 ghost use mathlib.Core.Path.{_≡_};
 ghost use mathlib.Core.List.{List};
@@ -37,10 +39,14 @@ fn decl_modifiers(tokens: &[u8], text: &[u8], end: u32, at: usize) -> Eaten
     requires { ⌜ at < 65536 ⌝ }
     ensures { λ r. ⌜ DeclModified (input (now (tokens .entry)) (now (text .entry)) end) at (r .flags) (r .next) ⌝ }
 {
-    let a = ate(tokens, text, end, at, b"pure");
-    let b = ate(tokens, text, end, a, b"multi");
-    let c = ate(tokens, text, end, b, b"partial");
-    let d = ate(tokens, text, end, c, b"rec");
+    let t = peek(tokens, end, at);
+    let a = ate_of(tokens, text, end, at, b"pure", t);
+    let u = token_after(tokens, end, at, a, t);
+    let b = ate_of(tokens, text, end, a, b"multi", u);
+    let v = token_after(tokens, end, a, b, u);
+    let c = ate_of(tokens, text, end, b, b"partial", v);
+    let w = token_after(tokens, end, b, c, v);
+    let d = ate_of(tokens, text, end, c, b"rec", w);
     let flags = (a - at) + (b - a) * 2 + (c - b) * 4 + (d - c) * 8;
     Eaten {
         flags: flags as u8,

@@ -13,7 +13,7 @@ use rules::parse_rule;
 use steps::Parsed;
 use steps::expect_lparen;
 use steps::expect_rparen;
-use steps::expect_word;
+use steps::expect_word_of;
 use steps::refuse_after;
 use steps::second_token;
 use tokens::Token;
@@ -30,82 +30,91 @@ ghost use Rattle.parser.specs.Types.{parseType};
 ghost use Rattle.parser.specs.Defs.{parsePragma, parseDecl, parseAttr, parseRule, parseEtor, parseExtern, parseConverter, worded, isUncovered, otherDef, restDef, parseDef, parseDefs};
 ghost use Rattle.parser.specs.Unread.{Unread};
 
-fn def_pragma(tokens: &[u8], text: &[u8], end: u32, out: &mut [u8], p: Parsed) -> Parsed
+// The definitions, each by its second token u, the word that it starts with.
+fn def_pragma(tokens: &[u8], text: &[u8], end: u32, out: &mut [u8], p: Parsed, u: Token) -> Parsed
     requires { ⌜ Ready 3 (input (now tokens) (now text) end) p ⌝ }
+    requires { ⌜ u ≡ secondFor (now tokens) end p ⌝ }
     ensures { λ r. ⌜ Chained (worded (input (now (tokens .entry)) (now (text .entry)) end) word-pragma (parsePragma (input (now (tokens .entry)) (now (text .entry)) end))) p (now (out .entry)) (now (out .exit)) r ⌝ }
 {
     let open = expect_lparen(tokens, end, p);
-    let word = expect_word(tokens, text, end, open, b"pragma");
+    let word = expect_word_of(tokens, text, end, open, b"pragma", u);
     let q = parse_pragma(tokens, text, end, out, word);
     expect_rparen(tokens, end, q)
 }
 
-fn def_type(tokens: &[u8], text: &[u8], end: u32, out: &mut [u8], p: Parsed) -> Parsed
+fn def_type(tokens: &[u8], text: &[u8], end: u32, out: &mut [u8], p: Parsed, u: Token) -> Parsed
     requires { ⌜ Ready 3 (input (now tokens) (now text) end) p ⌝ }
+    requires { ⌜ u ≡ secondFor (now tokens) end p ⌝ }
     ensures { λ r. ⌜ Chained (worded (input (now (tokens .entry)) (now (text .entry)) end) word-type (parseType (input (now (tokens .entry)) (now (text .entry)) end))) p (now (out .entry)) (now (out .exit)) r ⌝ }
 {
     let open = expect_lparen(tokens, end, p);
-    let word = expect_word(tokens, text, end, open, b"type");
+    let word = expect_word_of(tokens, text, end, open, b"type", u);
     let q = parse_type(tokens, text, end, out, word);
     expect_rparen(tokens, end, q)
 }
 
-fn def_decl(tokens: &[u8], text: &[u8], end: u32, out: &mut [u8], p: Parsed) -> Parsed
+fn def_decl(tokens: &[u8], text: &[u8], end: u32, out: &mut [u8], p: Parsed, u: Token) -> Parsed
     requires { ⌜ Ready 3 (input (now tokens) (now text) end) p ⌝ }
+    requires { ⌜ u ≡ secondFor (now tokens) end p ⌝ }
     ensures { λ r. ⌜ Chained (worded (input (now (tokens .entry)) (now (text .entry)) end) word-decl (parseDecl (input (now (tokens .entry)) (now (text .entry)) end))) p (now (out .entry)) (now (out .exit)) r ⌝ }
 {
     let open = expect_lparen(tokens, end, p);
-    let word = expect_word(tokens, text, end, open, b"decl");
+    let word = expect_word_of(tokens, text, end, open, b"decl", u);
     let q = parse_decl(tokens, text, end, out, word);
     expect_rparen(tokens, end, q)
 }
 
-fn def_attr(tokens: &[u8], text: &[u8], end: u32, out: &mut [u8], p: Parsed) -> Parsed
+fn def_attr(tokens: &[u8], text: &[u8], end: u32, out: &mut [u8], p: Parsed, u: Token) -> Parsed
     requires { ⌜ Ready 3 (input (now tokens) (now text) end) p ⌝ }
+    requires { ⌜ u ≡ secondFor (now tokens) end p ⌝ }
     ensures { λ r. ⌜ Chained (worded (input (now (tokens .entry)) (now (text .entry)) end) word-attr (parseAttr (input (now (tokens .entry)) (now (text .entry)) end))) p (now (out .entry)) (now (out .exit)) r ⌝ }
 {
     let open = expect_lparen(tokens, end, p);
-    let word = expect_word(tokens, text, end, open, b"attr");
+    let word = expect_word_of(tokens, text, end, open, b"attr", u);
     let q = parse_attr(tokens, text, end, out, word);
     expect_rparen(tokens, end, q)
 }
 
-fn def_rule(tokens: &[u8], text: &[u8], end: u32, out: &mut [u8], p: Parsed) -> Parsed
+fn def_rule(tokens: &[u8], text: &[u8], end: u32, out: &mut [u8], p: Parsed, u: Token) -> Parsed
     requires { ⌜ Ready 3 (input (now tokens) (now text) end) p ⌝ }
+    requires { ⌜ u ≡ secondFor (now tokens) end p ⌝ }
     ensures { λ r. ⌜ Chained (worded (input (now (tokens .entry)) (now (text .entry)) end) word-rule (parseRule (input (now (tokens .entry)) (now (text .entry)) end))) p (now (out .entry)) (now (out .exit)) r ⌝ }
 {
     let open = expect_lparen(tokens, end, p);
-    let word = expect_word(tokens, text, end, open, b"rule");
+    let word = expect_word_of(tokens, text, end, open, b"rule", u);
     let q = parse_rule(tokens, text, end, out, word);
     expect_rparen(tokens, end, q)
 }
 
-fn def_extractor(tokens: &[u8], text: &[u8], end: u32, out: &mut [u8], p: Parsed) -> Parsed
+fn def_extractor(tokens: &[u8], text: &[u8], end: u32, out: &mut [u8], p: Parsed, u: Token) -> Parsed
     requires { ⌜ Ready 3 (input (now tokens) (now text) end) p ⌝ }
+    requires { ⌜ u ≡ secondFor (now tokens) end p ⌝ }
     ensures { λ r. ⌜ Chained (worded (input (now (tokens .entry)) (now (text .entry)) end) word-extractor (parseEtor (input (now (tokens .entry)) (now (text .entry)) end))) p (now (out .entry)) (now (out .exit)) r ⌝ }
 {
     let open = expect_lparen(tokens, end, p);
-    let word = expect_word(tokens, text, end, open, b"extractor");
+    let word = expect_word_of(tokens, text, end, open, b"extractor", u);
     let q = parse_etor(tokens, text, end, out, word);
     expect_rparen(tokens, end, q)
 }
 
-fn def_extern(tokens: &[u8], text: &[u8], end: u32, out: &mut [u8], p: Parsed) -> Parsed
+fn def_extern(tokens: &[u8], text: &[u8], end: u32, out: &mut [u8], p: Parsed, u: Token) -> Parsed
     requires { ⌜ Ready 3 (input (now tokens) (now text) end) p ⌝ }
+    requires { ⌜ u ≡ secondFor (now tokens) end p ⌝ }
     ensures { λ r. ⌜ Chained (worded (input (now (tokens .entry)) (now (text .entry)) end) word-extern (parseExtern (input (now (tokens .entry)) (now (text .entry)) end))) p (now (out .entry)) (now (out .exit)) r ⌝ }
 {
     let open = expect_lparen(tokens, end, p);
-    let word = expect_word(tokens, text, end, open, b"extern");
+    let word = expect_word_of(tokens, text, end, open, b"extern", u);
     let q = parse_extern(tokens, text, end, out, word);
     expect_rparen(tokens, end, q)
 }
 
-fn def_convert(tokens: &[u8], text: &[u8], end: u32, out: &mut [u8], p: Parsed) -> Parsed
+fn def_convert(tokens: &[u8], text: &[u8], end: u32, out: &mut [u8], p: Parsed, u: Token) -> Parsed
     requires { ⌜ Ready 3 (input (now tokens) (now text) end) p ⌝ }
+    requires { ⌜ u ≡ secondFor (now tokens) end p ⌝ }
     ensures { λ r. ⌜ Chained (worded (input (now (tokens .entry)) (now (text .entry)) end) word-convert (parseConverter (input (now (tokens .entry)) (now (text .entry)) end))) p (now (out .entry)) (now (out .exit)) r ⌝ }
 {
     let open = expect_lparen(tokens, end, p);
-    let word = expect_word(tokens, text, end, open, b"convert");
+    let word = expect_word_of(tokens, text, end, open, b"convert", u);
     let q = parse_converter(tokens, text, end, out, word);
     expect_rparen(tokens, end, q)
 }
@@ -152,16 +161,16 @@ fn parse_def_rest(tokens: &[u8], text: &[u8], end: u32, out: &mut [u8], p: Parse
     ensures { λ r. ⌜ Chained (restDef (input (now (tokens .entry)) (now (text .entry)) end)) p (now (out .entry)) (now (out .exit)) r ⌝ }
 {
     if u.is_word(text, b"rule") {
-        return def_rule(tokens, text, end, out, p);
+        return def_rule(tokens, text, end, out, p, u);
     }
     if u.is_word(text, b"extractor") {
-        return def_extractor(tokens, text, end, out, p);
+        return def_extractor(tokens, text, end, out, p, u);
     }
     if u.is_word(text, b"extern") {
-        return def_extern(tokens, text, end, out, p);
+        return def_extern(tokens, text, end, out, p, u);
     }
     if u.is_word(text, b"convert") {
-        return def_convert(tokens, text, end, out, p);
+        return def_convert(tokens, text, end, out, p, u);
     }
     other_def(tokens, text, end, p, u)
 }
@@ -172,16 +181,16 @@ fn parse_def(tokens: &[u8], text: &[u8], end: u32, out: &mut [u8], p: Parsed) ->
 {
     let u = second_token(tokens, end, p);
     if u.is_word(text, b"pragma") {
-        return def_pragma(tokens, text, end, out, p);
+        return def_pragma(tokens, text, end, out, p, u);
     }
     if u.is_word(text, b"type") {
-        return def_type(tokens, text, end, out, p);
+        return def_type(tokens, text, end, out, p, u);
     }
     if u.is_word(text, b"decl") {
-        return def_decl(tokens, text, end, out, p);
+        return def_decl(tokens, text, end, out, p, u);
     }
     if u.is_word(text, b"attr") {
-        return def_attr(tokens, text, end, out, p);
+        return def_attr(tokens, text, end, out, p, u);
     }
     parse_def_rest(tokens, text, end, out, p, u)
 }

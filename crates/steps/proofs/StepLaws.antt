@@ -30,7 +30,7 @@ use Rattle.steps.specs.declared.Parsed.{Parsed}
 use Rattle.steps.specs.declared.Parsed.the-variants.{Accepted, Refused}
 use Rattle.steps.proofs.Parsed.{the-type}
 use Rattle.steps.specs.Outcome.{Outcome, accept, refuse, refusal, Reader, refuseFrom, ate, eat, refuseAfter, refusedAs, pragmaRefusal, unexpected, expectAt, identAt, nameBy, parseIdent, constRefusal, parseConst}
-use Rattle.steps.specs.Met.{Taken, Met, Chained, movedTo, moved, inside, Closed, Leafed, tokenFor, secondFor, goesOn, endsAt, At, Ready, Below, Near, Small, Flags}
+use Rattle.steps.specs.Met.{Taken, Met, Chained, movedTo, moved, inside, Closed, Leafed, tokenFor, secondFor, Next, goesOn, endsAt, At, Ready, Below, Near, Small, Flags}
 
 -- ---- a state that is no acceptance, and the same state made anew
 
@@ -334,6 +334,23 @@ refused-here tokens end code p i n k t e a = rw (e, a)
 pub token-here : (tokens : List ℕ) (end i n k : ℕ) (t : Token) (p : Parsed) → t ≡ tokenFor tokens end p → p ≡ Accepted i n k → t ≡ tokenAt tokens end i
 unfolding tokenFor
 token-here tokens end i n k t p e a = e ∙ rw a
+
+pub next-here : (tokens : List ℕ) (end i n k : ℕ) (t : Token) (p : Parsed) → Next tokens end p t → p ≡ Accepted i n k → t ≡ tokenAt tokens end i
+unfolding Next
+next-here tokens end i n k t p h e = subst (λ (x : Parsed). Next tokens end x t) e h
+
+-- the second token is the next one after a `(`
+pub next-after : (tokens : List ℕ) (end : ℕ) (test : Token → Bool) (p q : Parsed) (t : Token) → t ≡ secondFor tokens end p → q ≡ moved (expectAt tokens end test) p → Next tokens end q t
+unfolding secondFor moved movedTo expectAt Next
+next-after tokens end test (Accepted i n k) q t e a = rw a (go (test (tokenAt tokens end i)))
+  where
+    go : (b : Bool) → Next tokens end (movedTo n k (choose b (λ _. accept ∅ (i + 1)) (λ _. refuse (unexpected (tokenAt tokens end i) i)))) t
+    go true = e
+    go false = tt
+next-after tokens end test (Refused d) q t e a = rw a tt
+
+pub same-token : (tokens : List ℕ) (end i j : ℕ) (t : Token) → t ≡ tokenAt tokens end i → i ≡ j → t ≡ tokenAt tokens end j
+same-token tokens end i j t e h = e ∙ ap (tokenAt tokens end) h
 
 pub token-inside : (tokens : List ℕ) (end : ℕ) (t : Token) (p q : Parsed) → t ≡ tokenFor tokens end p → q ≡ inside p → t ≡ tokenFor tokens end q
 unfolding tokenFor inside

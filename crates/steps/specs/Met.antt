@@ -73,6 +73,11 @@ unfoldable pub secondFor : List ℕ → ℕ → Parsed → Token
 secondFor tokens end (Accepted i n k) = tokenAt tokens end (i + 1)
 secondFor tokens end (Refused e) = pastLast end
 
+-- t is the next token, where reading goes on
+unfoldable pub Next : List ℕ → ℕ → Parsed → Token → Type 0
+Next tokens end (Accepted i n k) t = t ≡ tokenAt tokens end i
+Next tokens end (Refused e) t = Unit {0}
+
 -- whether a row goes on: nothing is refused, and the test says no stop
 unfoldable pub goesOn : (ℕ → Bool) → Parsed → Bool
 goesOn stop (Accepted i n k) = not (stop i)

@@ -22,7 +22,7 @@ ghost use Rattle.tokens.specs.Token.{tokenAt, kindAt, pastLast, isKind, isLpare
 ghost use Rattle.tokens.specs.Ident.{identRefusal};
 ghost use Rattle.tokens.specs.Input.{Input, input};
 ghost use Rattle.steps.specs.Outcome.{parent, row, ate, eat, nameBy, refusedAs, pragmaRefusal, refuseAfter, unexpected, expectAt, refuseFrom, constRefusal, identAt, parseIdent, parseConst};
-ghost use Rattle.steps.specs.Met.{Met, Chained, moved, inside, Closed, Leafed, tokenFor, secondFor, goesOn, endsAt, Ready, Below, Near, Small, Flags};
+ghost use Rattle.steps.specs.Met.{Met, Chained, moved, inside, Closed, Leafed, tokenFor, secondFor, Next, goesOn, endsAt, Ready, Below, Near, Small, Flags};
 
 // Where reading stopped, and why: document 01's number and place, and how many tokens were consumed.
 pub struct Refusal {
@@ -154,7 +154,7 @@ pub fn expect_word(tokens: &[u8], text: &[u8], end: u32, p: Parsed, w: &[u8]) ->
 // The same by the next token t.
 pub fn expect_word_of(tokens: &[u8], text: &[u8], end: u32, p: Parsed, w: &[u8], t: Token) -> Parsed
     requires { ⌜ Near p ⌝ }
-    requires { ⌜ t ≡ tokenFor (now tokens) end p ⌝ }
+    requires { ⌜ Next (now tokens) end p t ⌝ }
     ensures { λ r. ⌜ r ≡ moved (expectAt (now (tokens .entry)) end (isWord (now (text .entry)) (now (w .entry)))) p ⌝ }
 {
     let Parsed::Accepted { next, count, items } = p else {
@@ -630,10 +630,30 @@ pub fn ate(tokens: &[u8], text: &[u8], end: u32, at: usize, w: &[u8]) -> usize
     ensures { λ r. ⌜ r ≡ ate (input (now (tokens .entry)) (now (text .entry)) end) (now (w .entry)) at ⌝ }
 {
     let t = peek(tokens, end, at);
+    ate_of(tokens, text, end, at, w, t)
+}
+
+// The same by the token t that stands there.
+pub fn ate_of(tokens: &[u8], text: &[u8], end: u32, at: usize, w: &[u8], t: Token) -> usize
+    requires { ⌜ at < 4294967296 ⌝ }
+    requires { ⌜ t ≡ tokenAt (now tokens) end at ⌝ }
+    ensures { λ r. ⌜ r ≡ ate (input (now (tokens .entry)) (now (text .entry)) end) (now (w .entry)) at ⌝ }
+{
     if t.is_word(text, w) {
         return after(tokens, at);
     }
     at
+}
+
+// The token at `next`, by the token t at `at`, which it is where nothing was eaten.
+pub fn token_after(tokens: &[u8], end: u32, at: usize, next: usize, t: Token) -> Token
+    requires { ⌜ t ≡ tokenAt (now tokens) end at ⌝ }
+    ensures { λ r. ⌜ r ≡ tokenAt (now (tokens .entry)) end next ⌝ }
+{
+    if at == next {
+        return t;
+    }
+    peek(tokens, end, next)
 }
 
 // The same at a state.

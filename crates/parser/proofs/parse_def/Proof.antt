@@ -15,7 +15,7 @@ is-word-requires : tie.Need-is-word-requires
 is-word-requires c κs = search needs
 
 def-pragma-requires : tie.Need-def-pragma-requires
-def-pragma-requires c κs = search needs
+def-pragma-requires c κs = (search needs, search needs)
 
 same-length : tie.Need-same-length
 same-length c = search needs
@@ -31,7 +31,7 @@ is-word-requires-2 : tie.Need-is-word-requires-2
 is-word-requires-2 c κs = search needs
 
 def-type-requires : tie.Need-def-type-requires
-def-type-requires c κs = search needs
+def-type-requires c κs = (search needs, search needs)
 
 same-length-2 : tie.Need-same-length-2
 same-length-2 c = search needs
@@ -47,7 +47,7 @@ is-word-requires-3 : tie.Need-is-word-requires-3
 is-word-requires-3 c κs = search needs
 
 def-decl-requires : tie.Need-def-decl-requires
-def-decl-requires c κs = search needs
+def-decl-requires c κs = (search needs, search needs)
 
 same-length-3 : tie.Need-same-length-3
 same-length-3 c = search needs
@@ -63,7 +63,7 @@ is-word-requires-4 : tie.Need-is-word-requires-4
 is-word-requires-4 c κs = search needs
 
 def-attr-requires : tie.Need-def-attr-requires
-def-attr-requires c κs = search needs
+def-attr-requires c κs = (search needs, search needs)
 
 same-length-4 : tie.Need-same-length-4
 same-length-4 c = search needs

@@ -11,7 +11,7 @@ is-word-requires : tie.Need-is-word-requires
 is-word-requires c κs = search needs
 
 def-rule-requires : tie.Need-def-rule-requires
-def-rule-requires c κs = search needs
+def-rule-requires c κs = (search needs, search needs)
 
 same-length : tie.Need-same-length
 same-length c = search needs
@@ -27,7 +27,7 @@ is-word-requires-2 : tie.Need-is-word-requires-2
 is-word-requires-2 c κs = search needs
 
 def-extractor-requires : tie.Need-def-extractor-requires
-def-extractor-requires c κs = search needs
+def-extractor-requires c κs = (search needs, search needs)
 
 same-length-2 : tie.Need-same-length-2
 same-length-2 c = search needs
@@ -43,7 +43,7 @@ is-word-requires-3 : tie.Need-is-word-requires-3
 is-word-requires-3 c κs = search needs
 
 def-extern-requires : tie.Need-def-extern-requires
-def-extern-requires c κs = search needs
+def-extern-requires c κs = (search needs, search needs)
 
 same-length-3 : tie.Need-same-length-3
 same-length-3 c = search needs
@@ -59,7 +59,7 @@ is-word-requires-4 : tie.Need-is-word-requires-4
 is-word-requires-4 c κs = search needs
 
 def-convert-requires : tie.Need-def-convert-requires
-def-convert-requires c κs = search needs
+def-convert-requires c κs = (search needs, search needs)
 
 same-length-4 : tie.Need-same-length-4
 same-length-4 c = search needs

@@ -1,4 +1,4 @@
-use Rattle.steps.proofs.StepLaws.{moved-stays, near-next, expect-met, expect-refused, token-here}
+use Rattle.steps.proofs.StepLaws.{moved-stays, near-next, expect-met, expect-refused, next-here}
 use borrow.Author.Needs.{needs}
 use Rattle.steps.proofs.expect_word_of.Statement.{statement}
 use Rattle.steps.proofs.expect_word_of.Tie as tie
@@ -22,13 +22,13 @@ after-requires : tie.Need-after-requires
 after-requires c κs = search near-next
 
 returns-2 : tie.Need-returns-2
-returns-2 c = search (expect-met, token-here)
+returns-2 c = search (expect-met, next-here)
 
 unexpected-requires : tie.Need-unexpected-requires
 unexpected-requires c κs = search needs
 
 returns-3 : tie.Need-returns-3
-returns-3 c = search (expect-refused, token-here)
+returns-3 c = search (expect-refused, next-here)
 
 pub expect-word-of-spec : {M : Type 1} → statement M
 expect-word-of-spec =

@@ -1,10 +1,7 @@
 use Rattle.steps.proofs.StepLaws.{ate-word, ate-nothing}
 use borrow.Author.Needs.{needs}
-use Rattle.steps.proofs.ate.Statement.{statement}
-use Rattle.steps.proofs.ate.Tie as tie
-
-peek-requires : tie.Need-peek-requires
-peek-requires c κs = search needs
+use Rattle.steps.proofs.ate_of.Statement.{statement}
+use Rattle.steps.proofs.ate_of.Tie as tie
 
 is-word-requires : tie.Need-is-word-requires
 is-word-requires c κs = search needs
@@ -18,5 +15,5 @@ returns c = search ate-word
 returns-2 : tie.Need-returns-2
 returns-2 c = search ate-nothing
 
-pub ate-spec : {M : Type 1} → statement M
-ate-spec = tie.close (tie.spec peek-requires is-word-requires after-requires returns returns-2)
+pub ate-of-spec : {M : Type 1} → statement M
+ate-of-spec = tie.close (tie.spec is-word-requires after-requires returns returns-2)
