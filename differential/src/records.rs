@@ -4,8 +4,13 @@ pub const WIDTH: usize = 24;
 pub const MAX_TOKENS: usize = 16_384;
 pub const MAX_TEXT: usize = 65_536;
 pub const MAX_RECORDS: usize = 65_536;
-/// The most records of a list for which the library takes a small table.
-pub const SMALL_TABLE: usize = 4_096;
+/// The most records of a list for which the library takes each of its smaller tables.
+pub const SMALL_TABLES: [usize; 2] = [256, 4_096];
+
+/// Lengths about as long as the smaller tables.
+pub fn about_small_tables() -> impl Iterator<Item = usize> {
+    SMALL_TABLES.into_iter().flat_map(|most| [most - 1, most, most + 1])
+}
 
 /// One record: three 64-bit words.
 pub type Words = [u64; 3];

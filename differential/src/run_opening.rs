@@ -144,8 +144,8 @@ fn compare_limits(counts: &mut Counts) -> Result<(), String> {
             }
         }
     }
-    for defs in [SMALL_TABLE / 2, SMALL_TABLE / 2 + 1] {
-        for size in [SMALL_TABLE - 1, SMALL_TABLE, SMALL_TABLE + 1] {
+    for defs in SMALL_TABLES.iter().flat_map(|most| [most / 2, most / 2 + 1]) {
+        for size in about_small_tables() {
             let lists = attrs_and(defs, &and(wildcards(size - 1)), 1);
             one(&lists, &open(&lists), 50, counts)?;
         }

@@ -105,7 +105,7 @@ fn lists(text: usize, first: Vec<Words>, second: Vec<Words>) -> Lists {
     }
 }
 
-/// Lists of 65,536 records and of one more, lists about as long as the small table, long texts,
+/// Lists of 65,536 records and of one more, lists about as long as the smaller tables, long texts,
 /// deep trees, and results that no space holds.
 fn compare_limits(made: &mut Counts, substituted: &mut Counts) -> Result<(), String> {
     let deepest = MAX_RECORDS - 1;
@@ -117,7 +117,7 @@ fn compare_limits(made: &mut Counts, substituted: &mut Counts) -> Result<(), Str
             SUBSTITUTE.compare(&lists(text, last, wildcards(count)), substituted)?;
         }
     }
-    for count in [SMALL_TABLE - 1, SMALL_TABLE, SMALL_TABLE + 1] {
+    for count in about_small_tables() {
         let full = || and(wildcards(count - 1));
         MAKE_TEMPLATE.compare(&lists(1, full(), vec![IDENT; count]), made)?;
         SUBSTITUTE.compare(&lists(1, full(), wildcards(count)), substituted)?;

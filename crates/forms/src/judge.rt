@@ -238,7 +238,16 @@ fn scan(list: &[u8], t: usize, base: u32, stack: &mut [u32], at: usize) -> bool
     true
 }
 
-// The same for n patterns and then any number of the sort `base`, with a stack for few records.
+// The same for n patterns and then any number of the sort `base`, with a stack for as many records as some rules have.
+fn scan_little(list: &[u8], t: usize, base: u32, n: usize) -> bool
+    requires { ⌜ (slots (now list) ≤ 256) × (n ≤ 256) ⌝ }
+    ensures { λ y. ⌜ y ≡ fits t base (replicate n pattern) (recs (now (list .entry))) ⌝ }
+{
+    let mut stack = [1u32; 256];
+    scan(list, t, base, &mut stack, n)
+}
+
+// With a stack for few records.
 fn scan_few(list: &[u8], t: usize, base: u32, n: usize) -> bool
     requires { ⌜ (slots (now list) ≤ 4096) × (n ≤ 4096) ⌝ }
     ensures { λ y. ⌜ y ≡ fits t base (replicate n pattern) (recs (now (list .entry))) ⌝ }
@@ -261,6 +270,9 @@ fn scan_any(list: &[u8], t: usize, base: u32, n: usize) -> bool
     requires { ⌜ (slots (now list) ≤ 65536) × (n ≤ 1) ⌝ }
     ensures { λ y. ⌜ y ≡ fits t base (replicate n pattern) (recs (now (list .entry))) ⌝ }
 {
+    if list.len() / 24 <= 256 {
+        return scan_little(list, t, base, n);
+    }
     if list.len() / 24 <= 4096 {
         return scan_few(list, t, base, n);
     }

@@ -9,7 +9,7 @@ use templating::sizes;
 use words::clear;
 use words::clear_from;
 ghost use mathlib.Core.Path.{_≡_};
-ghost use Prim.Native.Nat.{ℕ, _≤_, _/_};
+ghost use Prim.Native.Nat.{ℕ, _≤_, _/_, max};
 ghost use lib.ListN.{length};
 ghost use Rattle.trees.specs.Tree.{treesOf};
 ghost use Rattle.records.specs.Slots.{slots, recs};
@@ -69,6 +69,15 @@ fn open_by(
     finish(store, out, a)
 }
 
+// With a table for as many records as some rules have.
+fn open_little(text: &[u8], defs: &[u8], pattern: &[u8], store: &mut [u8], out: &mut [u8]) -> u64
+    requires { ⌜ Judged (now text) (now defs) (now pattern) × (slots (now defs) ≤ 256) × (slots (now pattern) ≤ 256) ⌝ }
+    ensures { λ r. ⌜ Left (opening (now (text .entry)) (treesOf (recs (now (defs .entry)))) (treeOf (recs (now (pattern .entry)))) (spaceOf (now (store .entry))) (spaceOf (now (out .entry)))) (length (now (store .entry))) (length (now (out .entry))) (now (store .exit)) (now (out .exit)) r ⌝ }
+{
+    let mut ends = [0u32; 256];
+    open_by(text, defs, pattern, &mut ends, store, out)
+}
+
 // With a table for few records.
 fn open_few(text: &[u8], defs: &[u8], pattern: &[u8], store: &mut [u8], out: &mut [u8]) -> u64
     requires { ⌜ Judged (now text) (now defs) (now pattern) × (slots (now defs) ≤ 4096) × (slots (now pattern) ≤ 4096) ⌝ }
@@ -87,18 +96,25 @@ fn open_many(text: &[u8], defs: &[u8], pattern: &[u8], store: &mut [u8], out: &m
     open_by(text, defs, pattern, &mut ends, store, out)
 }
 
+fn greater(a: usize, b: usize) -> usize
+    ensures { λ r. ⌜ r ≡ max a b ⌝ }
+{
+    if a < b { b } else { a }
+}
+
 // Definitions and a pattern that are of their kind. A small table is filled with zeros in less time than a large one.
 fn open_judged(text: &[u8], defs: &[u8], pattern: &[u8], store: &mut [u8], out: &mut [u8]) -> u64
     requires { ⌜ Judged (now text) (now defs) (now pattern) ⌝ }
     ensures { λ r. ⌜ Left (opening (now (text .entry)) (treesOf (recs (now (defs .entry)))) (treeOf (recs (now (pattern .entry)))) (spaceOf (now (store .entry))) (spaceOf (now (out .entry)))) (length (now (store .entry))) (length (now (out .entry))) (now (store .exit)) (now (out .exit)) r ⌝ }
 {
-    if 4096 < defs.len() / 24 {
-        return open_many(text, defs, pattern, store, out);
+    let records = greater(defs.len() / 24, pattern.len() / 24);
+    if records <= 256 {
+        return open_little(text, defs, pattern, store, out);
     }
-    if 4096 < pattern.len() / 24 {
-        return open_many(text, defs, pattern, store, out);
+    if records <= 4096 {
+        return open_few(text, defs, pattern, store, out);
     }
-    open_few(text, defs, pattern, store, out)
+    open_many(text, defs, pattern, store, out)
 }
 
 // Any lent lists, any text, any store, any output.
