@@ -3,14 +3,14 @@ use mathlib.Core.Path.{_≡_, refl, sym}
 use mathlib.Core.Bool.{Bool, true, false, not, false≢true}
 use Prim.Native.Nat.{ℕ, zero, suc, _+_, _*_, _/_, _%_, _≤_, _<_}
 use native.Mathlib.Omega.{arith}
-use lib.Dec.{eqb, leb}
-use borrow.Author.Tests.{eq-eqb, ne-eqb, eqb-true, eqb-false, lt-ltb, le-ltb, le-leb, lt-leb, not-true, not-false}
+use lib.Dec.{eqb, ltb, leb}
+use borrow.Author.Tests.{eq-eqb, ne-eqb, eqb-true, eqb-false, ltb-true, lt-ltb, le-ltb, le-leb, lt-leb, not-true, not-false}
 use Rattle.trees.specs.declared.Rec.{Rec}
 use Rattle.trees.specs.Choice.{pick}
 use Rattle.forms.specs.declared.Row.{Row}
 use Rattle.forms.specs.Kinds.{none, tuple-field, index, integer, range, rows, find, rowFor}
 use Rattle.forms.specs.Tests.{_and_}
-use Rattle.forms.specs.Stack.{NameTaken}
+use Rattle.forms.specs.Stack.{NameTaken, VarTaken}
 use Rattle.forms.specs.Forms.{placed, one, run, some, singles, leading, sortsOf, positionOk, reach, wordsOk, stands}
 use Rattle.forms.proofs.TestLaws.{true-and, false-and, and-false}
 
@@ -132,7 +132,26 @@ module _ (t s : ℕ) (w : Row) (r : Rec) where
 pub name-not : (t s : ℕ) (r : Rec) → NameTaken t s r false
 name-not t s r = record { stands = λ e. absurd (false≢true e); childless = λ e. absurd (false≢true e) }
 
-pub name-taken : (t s : ℕ) (r : Rec) → r .kind ≡ 24 → s ≡ 4 → r .flags ≡ 0 → r .count ≡ 0 → r .word2 ≡ 0
+name-good : (t s : ℕ) (r : Rec) → s ≡ 4 → r .kind ≡ 24 → r .flags ≡ 0 → r .count ≡ 0 → r .word2 ≡ 0
     → NameTaken t s r (leb (r .word1 / 4294967296 + r .word1 % 4294967296) t)
 unfolding stands rowFor find rows placed positionOk wordsOk singles some sortsOf leading run one _and_
-name-taken t s r k e f c w = record { stands = λ y. rw (k, e, f, c, w, y); childless = λ y. rw (k, c) }
+name-good t s r e k f c w = record { stands = λ y. rw (k, e, f, c, w, y); childless = λ y. rw (k, c) }
+
+pub name-taken : (t s : ℕ) (r q : Rec) → r ≡ q → s ≡ 4 → r .kind ≡ 24 → r .flags ≡ 0 → r .count ≡ 0 → r .word2 ≡ 0
+    → NameTaken t s q (leb (r .word1 / 4294967296 + r .word1 % 4294967296) t)
+name-taken t s r q read e k f c w = rw (← read) (name-good t s r e k f c w)
+
+-- a Var where a pattern is expected
+pub var-not : (below left s : ℕ) (r : Rec) → VarTaken below left s r false
+var-not below left s r =
+    record { stands = λ t e. absurd (false≢true e); child = λ e. absurd (false≢true e); room = λ e. absurd (false≢true e) }
+
+var-good : (below left s : ℕ) (r : Rec) → s ≡ 1 → r .kind ≡ 30 → r .flags ≡ 0 → r .count ≡ 1 → r .word1 ≡ 0 → r .word2 ≡ 0
+    → VarTaken below left s r (ltb below left)
+unfolding stands rowFor find rows placed positionOk wordsOk singles some sortsOf leading run one _and_
+var-good below left s r e k f c a b =
+    record { stands = λ t y. rw (k, e, f, c, a, b); child = λ y. rw (k, c); room = λ y. ltb-true below left y }
+
+pub var-taken : (below left s : ℕ) (r q : Rec) → r ≡ q → s ≡ 1 → r .kind ≡ 30 → r .flags ≡ 0 → r .count ≡ 1 → r .word1 ≡ 0 → r .word2 ≡ 0
+    → VarTaken below left s q (ltb below left)
+var-taken below left s r q read e k f c a b = rw (← read) (var-good below left s r e k f c a b)

@@ -10,10 +10,10 @@ use Rattle.trees.specs.declared.Rec.{Rec}
 use Rattle.records.specs.Slots.{slots, recAt, recs}
 use Rattle.forms.specs.declared.Row.{Row}
 use Rattle.forms.specs.Tests.{_and_}
-use Rattle.forms.specs.Kinds.{rowFor}
+use Rattle.forms.specs.Kinds.{name, rowFor}
 use Rattle.forms.specs.Forms.{sortsOf, children, stands, good, next, fits, singles}
 use Rattle.forms.specs.Lists.{left}
-use Rattle.forms.specs.Stack.{pending, Pushed, NameTaken}
+use Rattle.forms.specs.Stack.{pending, Pushed, NameTaken, VarTaken, Taken}
 use Rattle.forms.proofs.TestLaws.{true-and, false-and, and-false}
 use Rattle.forms.proofs.Exact.{enough, length-children, fits-short}
 use Rattle.forms.proofs.ListLaws.{left-more, left-none, left-all, length-left}
@@ -33,43 +33,81 @@ good-row t s r w b e f = f ∙ ap (λ (x : Row). stands t s x r) e
 pushed-row : (s s′ : List ℕ) (top top′ : ℕ) (r : Rec) (w : Row) → w ≡ rowFor (r .kind) (r .flags) → Pushed s s′ top top′ (sortsOf w (r .count)) → Pushed s s′ top top′ (children r)
 pushed-row s s′ top top′ r w e p = rw (← e) p
 
-module _ (t base n : ℕ) (list stack : List ℕ) (top i below s : ℕ) (r : Rec) (w : Row) (b f : Bool)
-    (read : r ≡ recAt list i) (want : s ≡ next base (pending stack top)) (under : below ≡ top - 1)
-    (found : w ≡ rowFor (r .kind) (r .flags)) (tested : b ≡ stands t s w r)
-    (inv : fits t base (pending stack top) (left list i) ≡ f) (all : n ≡ slots list) (more : i < n) where
+module _ (t s below l : ℕ) (a : List ℕ) (r q : Rec) (w : Row) (b : Bool)
+    (read : r ≡ q) (found : w ≡ rowFor (r .kind) (r .flags)) (tested : b ≡ stands t s w r) where
   judged : b ≡ good t s r
   judged = good-row t s r w b found tested
 
-  turn : good t s r and fits t base (children r ++ pending stack below) (left list (i + 1)) ≡ f
+  pub take-no : not b ≡ true → Taken t s q below l a a 65537
+  take-no e = rw (← read) (record {
+      stands = λ h. absurd (omega arith);
+      pushed = λ h. absurd (omega arith);
+      inside = λ h. absurd (omega arith);
+      refused = λ h base rs k. rw (← judged, not-true b e) (false-and _);
+    })
+
+  pub take-short : not b ≡ false → l < below + r .count → Taken t s q below l a a 65537
+  take-short e h =
+      let size : length (children r) ≡ r .count = length-children t s r (sym judged ∙ not-false b e) in
+      rw (← read) (record {
+        stands = λ x. absurd (omega arith);
+        pushed = λ x. absurd (omega arith);
+        inside = λ x. absurd (omega arith);
+        refused = λ x base rs k.
+            rw (fits-short t base (children r ++ pending a below) rs (simp (length-append, size, length-pending) (omega arith))) (and-false _);
+      })
+
+  pub take-all : (a′ : List ℕ) (y : ℕ) → not b ≡ false → below + r .count ≤ l → l ≤ 65536 → Pushed a a′ below y (sortsOf w (r .count)) → y ≡ below + r .count
+      → Taken t s q below l a a′ y
+  take-all a′ y e h m p k = rw (← read) (record {
+      stands = λ x. sym judged ∙ not-false b e;
+      pushed = λ x. pushed-row a a′ below y r w found p;
+      inside = λ x. omega arith;
+      refused = λ x. absurd (omega arith);
+    })
+
+-- where a Var was seen there is room for its name
+module _ (n i below s : ℕ) (r : Rec) (b : Bool) (taken : VarTaken below (n - (i + 1)) s r b) (ok : b ≡ true) where
+  room : below < n - (i + 1)
+  room = taken .room ok
+
+  pub var-below : (list stack stack₀ : List ℕ) → n ≡ slots list → slots list ≤ length stack₀ → length stack ≡ length stack₀ → below < length stack
+  var-below list stack stack₀ e h k = let x : below < n - (i + 1) = room in omega arith
+
+  pub var-top : (y : ℕ) → y ≡ below + 1 → y ≤ n - (i + 1)
+  var-top y e = let x : below < n - (i + 1) = room in omega arith
+
+pub take-top : (t s below l y : ℕ) (r : Rec) (a b : List ℕ) → Taken t s r below l a b y → y ≤ 65536 → y ≤ l
+take-top t s below l y r a b taken h = taken .inside h
+
+module _ (t base n : ℕ) (list stack : List ℕ) (top i below s : ℕ) (f : Bool)
+    (want : s ≡ next base (pending stack top)) (under : below ≡ top - 1)
+    (inv : fits t base (pending stack top) (left list i) ≡ f) (all : n ≡ slots list) (more : i < n) where
+  turn : good t s (recAt list i) and fits t base (children (recAt list i) ++ pending stack below) (left list (i + 1)) ≡ f
   unfolding fits
   turn =
       let h : i < slots list = omega arith in
-      rw (read, want, under, ← pending-rest stack top) (rw (left-more list i h) at inv)
+      rw (want, under, ← pending-rest stack top) (rw (left-more list i h) at inv)
 
-  pub scan-no : not b ≡ true → false ≡ f
-  scan-no e = sym (false-and _) ∙ (rw (← judged, not-true b e) at turn)
+  -- an Ident is taken off without a look at its row
+  pub scan-name : (b : Bool) → NameTaken t s (recAt list i) b → b ≡ true → fits t base (pending stack below) (left list (i + 1)) ≡ f
+  scan-name b taken ok =
+      sym (true-and (fits t base (pending stack below) (left list (i + 1)))) ∙ (rw (taken .stands ok, taken .childless ok) at turn)
 
-  pub scan-short : not b ≡ false → n - (i + 1) < below + r .count → false ≡ f
-  scan-short e h =
-      let size : length (children r) ≡ r .count = length-children t s r (sym judged ∙ not-false b e) in
-      sym (and-false _)
-      ∙ (rw (fits-short t base (children r ++ pending stack below) (left list (i + 1)) (simp (length-append, length-left, size, length-pending) (omega arith))) at turn)
+  -- a Var leaves its name to be expected
+  pub scan-var : (b : Bool) (l y : ℕ) (stack′ : List ℕ) → VarTaken below l s (recAt list i) b → b ≡ true → Pushed stack stack′ below y (name ∷ [])
+      → fits t base (pending stack′ y) (left list (i + 1)) ≡ f
+  scan-var b l y stack′ taken ok q =
+      rw (q .holds) (sym (true-and (fits t base (name ∷ pending stack below) (left list (i + 1)))) ∙ (rw (taken .stands t ok, taken .child ok) at turn))
 
-  pub scan-again : (stack′ : List ℕ) (top′ : ℕ) → Pushed stack stack′ below top′ (sortsOf w (r .count)) → not b ≡ false → fits t base (pending stack′ top′) (left list (i + 1)) ≡ f
-  scan-again stack′ top′ q e =
-      rw (pushed-row stack stack′ below top′ r w found q .holds, ← true-and (fits t base (children r ++ pending stack below) (left list (i + 1)))) (rw (← judged, not-false b e) at turn)
+  pub scan-no : (stack′ : List ℕ) (y : ℕ) → Taken t s (recAt list i) below (n - (i + 1)) stack stack′ y → 65536 < y → false ≡ f
+  scan-no stack′ y taken h =
+      sym (taken .refused h base (left list (i + 1)) (simp (length-left) (omega arith))) ∙ turn
 
--- an Ident is taken off without a look at its row
-module _ (t base n : ℕ) (list stack : List ℕ) (top i below s : ℕ) (r : Rec) (b f : Bool)
-    (read : r ≡ recAt list i) (want : s ≡ next base (pending stack top)) (under : below ≡ top - 1) (taken : NameTaken t s r b) (yes : b ≡ true)
-    (inv : fits t base (pending stack top) (left list i) ≡ f) (all : n ≡ slots list) (more : i < n) where
-  pub scan-name : fits t base (pending stack below) (left list (i + 1)) ≡ f
-  unfolding fits
-  scan-name =
-      let h : i < slots list = omega arith in
-      let e : good t s r and fits t base (children r ++ pending stack below) (left list (i + 1)) ≡ f
-          = rw (read, want, under, ← pending-rest stack top) (rw (left-more list i h) at inv) in
-      sym (true-and (fits t base (pending stack below) (left list (i + 1)))) ∙ (rw (taken .stands yes, taken .childless yes) at e)
+  pub scan-again : (stack′ : List ℕ) (y : ℕ) → Taken t s (recAt list i) below (n - (i + 1)) stack stack′ y → y ≤ 65536
+      → fits t base (pending stack′ y) (left list (i + 1)) ≡ f
+  scan-again stack′ y taken h =
+      rw (taken .pushed h .holds) (sym (true-and (fits t base (children (recAt list i) ++ pending stack below) (left list (i + 1)))) ∙ (rw (taken .stands h) at turn))
 
 pub scan-end : (t base n : ℕ) (list stack : List ℕ) (top i : ℕ) (f : Bool) → fits t base (pending stack top) (left list i) ≡ f → n ≡ slots list → n ≤ i → top ≤ n - i → true ≡ f
 unfolding fits pending

@@ -10,7 +10,7 @@ use lib.Seq.{getD-set-same, getD-set-other}
 use lib.Dec.{eqb}
 use borrow.Author.Tests.{eq-eqb, ne-eqb}
 use Rattle.forms.specs.declared.Row.{Row}
-use Rattle.forms.specs.Kinds.{none}
+use Rattle.forms.specs.Kinds.{none, name}
 use Rattle.forms.specs.Forms.{placed, one, run, some, singles, leading, sortsOf, next, rest}
 use Rattle.forms.specs.Stack.{pending, Pushed}
 use Rattle.forms.proofs.Exact.{length-sortsOf}
@@ -65,6 +65,9 @@ pushed-none s top x e = rw (eq-eqb x none e) (record { holds = refl })
 pub pushed-one : (s : List ℕ) (top x : ℕ) → top + some x ≤ length s → (x ≡ 0 → ⊥) → Pushed s (set s top x) top (top + 1) (one x)
 unfolding one
 pushed-one s top x h e = rw (ne-eqb x none e) (record { holds = pending-push s top x (room top x (length s) h e) })
+
+pub pushed-name : (s : List ℕ) (top : ℕ) → top < length s → Pushed s (set s top 4) top (top + 1) (name ∷ [])
+pushed-name s top h = record { holds = pending-push s top 4 h }
 
 -- one push after another
 pub pushed-both : (s s₁ s₂ : List ℕ) (a b c : ℕ) (l m : List ℕ) → Pushed s s₁ a b l → Pushed s₁ s₂ b c m → Pushed s s₂ a c (m ++ l)

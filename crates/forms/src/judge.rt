@@ -1,18 +1,21 @@
 // Whether a record may stand where a sort is expected, and the stack of the sorts still expected.
 use crate::Row;
+use crate::table::Cells;
 use crate::table::numbers;
 use crate::table::row_of;
 use records::rec_at;
 use records::slots;
 use trees::Rec;
 ghost use mathlib.Core.Path.{_≡_};
+ghost use mathlib.Core.List.{[], _∷_};
 ghost use Prim.Native.Nat.{_+_, _-_, _≤_, _<_};
 ghost use lib.ListN.{length, replicate};
 ghost use lib.Dec.{eqb};
-ghost use Rattle.records.specs.Slots.{slots, recs};
+ghost use Rattle.records.specs.Slots.{slots, recs, recAt};
 ghost use Rattle.forms.specs.Kinds.{pattern, definition, name};
 ghost use Rattle.forms.specs.Forms.{placed, one, run, some, singles, leading, sortsOf, positionOk, reach, wordsOk, stands, next, fits, isOne, isMany};
-ghost use Rattle.forms.specs.Stack.{pending, Pushed, NameTaken};
+ghost use Rattle.forms.specs.Table.{table};
+ghost use Rattle.forms.specs.Stack.{pending, Pushed, NameTaken, VarTaken, Taken};
 
 // One where there is a child of the sort s.
 fn some(s: u8) -> usize
@@ -99,14 +102,17 @@ fn may_stand(t: usize, s: u32, w: Row, r: Rec) -> bool
     singles(w) <= r.count as usize
 }
 
-// Whether a record is an Ident that may stand where the sort s is expected: every third record or so is one, and it has no children.
-fn is_name(t: usize, s: u32, r: Rec) -> bool
-    ensures { λ y. ⌜ NameTaken t s r y ⌝ }
+// Whether the record at slot i is an Ident that may stand where the sort s is expected: every third record or so is one, and it has no children.
+// What is expected is asked first, so that the record is not taken apart for nothing.
+fn is_name(list: &[u8], i: usize, t: usize, s: u32) -> bool
+    requires { ⌜ i < slots (now list) ⌝ }
+    ensures { λ y. ⌜ NameTaken t s (recAt (now (list .entry)) i) y ⌝ }
 {
-    if r.kind != 24 {
+    if s != 4 {
         return false;
     }
-    if s != 4 {
+    let r = rec_at(list, i);
+    if r.kind != 24 {
         return false;
     }
     if r.flags != 0 {
@@ -119,6 +125,43 @@ fn is_name(t: usize, s: u32, r: Rec) -> bool
         return false;
     }
     (r.word1 / 4294967296 + r.word1 % 4294967296) as usize <= t
+}
+
+// Whether the record at slot i is a Var that may stand where the sort s is expected, with room for its name: below it so many sorts are
+// expected, and so many records are left after it.
+fn is_var(list: &[u8], i: usize, s: u32, below: usize, left: usize) -> bool
+    requires { ⌜ i < slots (now list) ⌝ }
+    ensures { λ y. ⌜ VarTaken below left s (recAt (now (list .entry)) i) y ⌝ }
+{
+    if s != 1 {
+        return false;
+    }
+    let r = rec_at(list, i);
+    if r.kind != 30 {
+        return false;
+    }
+    if r.flags != 0 {
+        return false;
+    }
+    if r.count != 1 {
+        return false;
+    }
+    if r.word1 != 0 {
+        return false;
+    }
+    if r.word2 != 0 {
+        return false;
+    }
+    below < left
+}
+
+// Puts the sort of names on the stack. The new top.
+fn push_name(stack: &mut [u32], top: usize) -> usize
+    requires { ⌜ top < length (now stack) ⌝ }
+    ensures { λ y. ⌜ Pushed (now (stack .entry)) (now (stack .exit)) top y (name ∷ []) × (y ≡ top + 1) ⌝ }
+{
+    stack[top] = 4;
+    top + 1
 }
 
 // Puts the sort s on the stack, where there is such a child. The new top.
@@ -203,6 +246,34 @@ fn less(n: usize) -> usize
     n - 1
 }
 
+// Takes the record at slot i where the sort s is expected, below it `below` sorts, and puts its children on the stack. The new top, or 65537
+// where the record may not stand there or where fewer than the expected ones are left after it.
+fn take(
+    list: &[u8],
+    i: usize,
+    t: usize,
+    s: u32,
+    rows: &Cells,
+    stack: &mut [u32],
+    below: usize,
+    left: usize,
+) -> usize
+    requires { ⌜ (i < slots (now list)) × (now rows ≡ table) ⌝ }
+    requires { ⌜ (below ≤ left) × (left ≤ length (now stack)) × (left ≤ 65536) ⌝ }
+    ensures { λ y. ⌜ Taken t s (recAt (now (list .entry)) i) below left (now (stack .entry)) (now (stack .exit)) y ⌝ }
+{
+    let r = rec_at(list, i);
+    let w = row_of(rows, r.kind, r.flags);
+    if !may_stand(t, s, w, r) {
+        return 65537;
+    }
+    let count = r.count as usize;
+    if left < below + count {
+        return 65537;
+    }
+    push_children(stack, below, w, count)
+}
+
 // Whether the records are trees of the sorts on the stack and then any number of the sort `base`, none where that is 0.
 fn scan(list: &[u8], t: usize, base: u32, stack: &mut [u32], at: usize) -> bool
     requires { ⌜ (slots (now list) ≤ 65536) × (slots (now list) ≤ length (now stack)) × (at ≤ length (now stack)) ⌝ }
@@ -216,23 +287,23 @@ fn scan(list: &[u8], t: usize, base: u32, stack: &mut [u32], at: usize) -> bool
     let mut top = at;
     let mut i = 0;
     while i < n {
-        let r = rec_at(list, i);
         let s = expected(stack, top, base);
         let below = less(top);
-        if is_name(t, s, r) {
+        if is_name(list, i, t, s) {
             top = below;
             i += 1;
             continue;
         }
-        let w = row_of(&rows, r.kind, r.flags);
-        if !may_stand(t, s, w, r) {
+        let left = n - (i + 1);
+        if is_var(list, i, s, below, left) {
+            top = push_name(stack, below);
+            i += 1;
+            continue;
+        }
+        top = take(list, i, t, s, &rows, stack, below, left);
+        if 65536 < top {
             return false;
         }
-        let count = r.count as usize;
-        if n - (i + 1) < below + count {
-            return false;
-        }
-        top = push_children(stack, below, w, count);
         i += 1;
     }
     true

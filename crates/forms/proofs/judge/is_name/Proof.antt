@@ -6,6 +6,9 @@ use Rattle.forms.proofs.judge.is_name.Tie as tie
 returns : tie.Need-returns
 returns c = search name-not
 
+rec-at-requires : tie.Need-rec-at-requires
+rec-at-requires c κs = search needs
+
 returns-2 : tie.Need-returns-2
 returns-2 c = search name-not
 
@@ -26,4 +29,5 @@ returns-6 c = search name-taken
 
 pub is-name-spec : {M : Type 1} → statement M
 is-name-spec =
-    tie.close (tie.spec returns returns-2 returns-3 returns-4 returns-5 add-result returns-6)
+    tie.close
+    (tie.spec returns rec-at-requires returns-2 returns-3 returns-4 returns-5 add-result returns-6)

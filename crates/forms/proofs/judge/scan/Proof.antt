@@ -6,7 +6,7 @@ use Rattle.records.specs.Slots.{recs}
 use Rattle.forms.specs.Forms.{fits}
 use Rattle.forms.specs.Lists.{left}
 use Rattle.forms.specs.Stack.{pending}
-use Rattle.forms.proofs.ScanLaws.{scan-first, scan-start, scan-name, scan-no, scan-short, scan-again, scan-end, scan-enough}
+use Rattle.forms.proofs.ScanLaws.{scan-first, scan-start, scan-name, scan-var, var-below, var-top, take-top, scan-no, scan-again, scan-end}
 use Rattle.forms.proofs.judge.scan.Statement.{statement}
 use Rattle.forms.proofs.judge.scan.Tie as tie
 
@@ -28,9 +28,6 @@ numbers-requires c κs = search needs
 loop-holds : tie.Need-loop-holds Inv-loop μ-loop
 loop-holds c = (search needs, search needs, search needs, search scan-start)
 
-rec-at-requires : tie.Need-rec-at-requires Inv-loop μ-loop
-rec-at-requires c κs = search needs
-
 expected-requires : tie.Need-expected-requires Inv-loop μ-loop
 expected-requires c κs = search needs
 
@@ -47,13 +44,31 @@ loop-less : tie.Need-loop-less Inv-loop μ-loop
 loop-less c = search needs
 
 loop-again : tie.Need-loop-again Inv-loop μ-loop
-loop-again c = (search needs, search needs, search needs, search scan-name)
+loop-again c = (search needs, search needs, search needs, scan-name _ _ _ _ _ _ _ _ _ _ (c .before .before .before .expected .ensures) (c .before .before .less .ensures) ((c .before .before .before .before .before .before .loop .inv) .3) (c .before .before .before .before .before .before .before .before .before .slots .ensures) (c .before .before .before .before .before .loop-test .taken) _ (c .before .is-name .ensures) (c .if2 .taken))
 
-row-of-requires : tie.Need-row-of-requires Inv-loop μ-loop
-row-of-requires c κs = search needs
+add-left : tie.Need-add-left Inv-loop μ-loop
+add-left c = search needs
 
-may-stand-requires : tie.Need-may-stand-requires Inv-loop μ-loop
-may-stand-requires c κs = search needs
+sub-left : tie.Need-sub-left Inv-loop μ-loop
+sub-left c = search needs
+
+is-var-requires : tie.Need-is-var-requires Inv-loop μ-loop
+is-var-requires c κs = search needs
+
+push-name-requires : tie.Need-push-name-requires Inv-loop μ-loop
+push-name-requires c κs = search var-below
+
+add-i-2 : tie.Need-add-i-2 Inv-loop μ-loop
+add-i-2 c = search needs
+
+loop-less-2 : tie.Need-loop-less-2 Inv-loop μ-loop
+loop-less-2 c = search needs
+
+loop-again-2 : tie.Need-loop-again-2 Inv-loop μ-loop
+loop-again-2 c = (search needs, var-top _ _ _ _ _ _ (c .before .before .before .before .before .is-var .ensures) (c .before .before .before .before .if3 .taken) _ ((c .before .before .push-name .ensures) .1), search needs, scan-var _ _ _ _ _ _ _ _ _ _ (c .before .before .before .before .before .before .before .before .before .expected .ensures) (c .before .before .before .before .before .before .before .before .less .ensures) ((c .before .before .before .before .before .before .before .before .before .before .before .before .loop .inv) .3) (c .before .before .before .before .before .before .before .before .before .before .before .before .before .before .before .slots .ensures) (c .before .before .before .before .before .before .before .before .before .before .before .loop-test .taken) _ _ _ _ (c .before .before .before .before .before .is-var .ensures) (c .before .before .before .before .if3 .taken) ((c .before .before .push-name .ensures) .0))
+
+take-requires : tie.Need-take-requires Inv-loop μ-loop
+take-requires c κs = ((search needs, search needs), (search needs, search needs, search needs))
 
 same-length : tie.Need-same-length Inv-loop μ-loop
 same-length c = search needs
@@ -61,41 +76,20 @@ same-length c = search needs
 returns-2 : tie.Need-returns-2 Inv-loop μ-loop
 returns-2 c = search scan-no
 
-cast-count : tie.Need-cast-count Inv-loop μ-loop
-cast-count c = search needs
+add-i-3 : tie.Need-add-i-3 Inv-loop μ-loop
+add-i-3 c = search needs
 
-add-if4 : tie.Need-add-if4 Inv-loop μ-loop
-add-if4 c = search needs
+loop-less-3 : tie.Need-loop-less-3 Inv-loop μ-loop
+loop-less-3 c = search needs
 
-sub-if4 : tie.Need-sub-if4 Inv-loop μ-loop
-sub-if4 c = search needs
-
-add-if4-2 : tie.Need-add-if4-2 Inv-loop μ-loop
-add-if4-2 c = search (needs, (c .before .before .before .before .before .before .before .before .before .before .before .before .loop .inv) .1, (c .before .before .before .before .before .before .before .before .before .before .before .before .before .before .before .slots .ensures), (c .before .before .before .before .before .before .before .before .before .before .before .before .before .before .before .before .before .before .pre) .0, (c .before .before .before .before .before .before .before .less .ensures))
+loop-again-3 : tie.Need-loop-again-3 Inv-loop μ-loop
+loop-again-3 c = (search needs, take-top _ _ _ _ _ _ _ _ (c .before .before .before .take .ensures) (c .if4 .left), search needs, search scan-again)
 
 same-length-2 : tie.Need-same-length-2 Inv-loop μ-loop
 same-length-2 c = search needs
 
 returns-3 : tie.Need-returns-3 Inv-loop μ-loop
-returns-3 c = search scan-short
-
-push-children-requires : tie.Need-push-children-requires Inv-loop μ-loop
-push-children-requires c κs = (search (needs, (c .before .before .before .before .before .before .before .before .before .before .before .before .before .before .loop .inv) .2, (c .before .before .before .before .before .before .before .before .before .before .before .before .before .before .before .before .before .slots .ensures), (c .before .before .before .before .before .before .before .before .before .before .before .before .before .before .before .before .before .before .before .before .pre) .0, (c .before .before .before .before .before .before .before .before .before .before .before .before .before .before .before .before .before .before .before .before .pre) .1, (c .before .if4 .left)), search scan-enough, search needs)
-
-add-i-2 : tie.Need-add-i-2 Inv-loop μ-loop
-add-i-2 c = search (needs, (c .before .before .before .before .before .before .before .before .before .before .before .before .before .before .before .before .loop-test .taken), (c .before .before .before .before .before .before .before .before .before .before .before .before .before .before .before .before .before .before .before .before .slots .ensures), (c .before .before .before .before .before .before .before .before .before .before .before .before .before .before .before .before .before .before .before .before .before .before .before .pre) .0)
-
-loop-less-2 : tie.Need-loop-less-2 Inv-loop μ-loop
-loop-less-2 c = search needs
-
-loop-again-2 : tie.Need-loop-again-2 Inv-loop μ-loop
-loop-again-2 c = (search needs, search needs, search needs, scan-again _ _ _ _ _ _ _ _ _ _ _ _ _ (c .before .before .before .before .before .before .before .before .before .before .before .before .before .before .before .rec-at .ensures) (c .before .before .before .before .before .before .before .before .before .before .before .before .before .expected .ensures) (c .before .before .before .before .before .before .before .before .before .before .before .before .less .ensures) (c .before .before .before .before .before .before .before .before .row-of .ensures) (c .before .before .before .before .before .before .before .may-stand .ensures) ((c .before .before .before .before .before .before .before .before .before .before .before .before .before .before .before .before .before .loop .inv) .3) (c .before .before .before .before .before .before .before .before .before .before .before .before .before .before .before .before .before .before .before .before .slots .ensures) (c .before .before .before .before .before .before .before .before .before .before .before .before .before .before .before .before .loop-test .taken) _ _ ((c .before .before .push-children .ensures) .0) (c .before .before .before .before .before .before .if3 .left))
-
-same-length-3 : tie.Need-same-length-3 Inv-loop μ-loop
-same-length-3 c = search needs
-
-returns-4 : tie.Need-returns-4 Inv-loop μ-loop
-returns-4 c = search scan-end
+returns-3 c = search scan-end
 
 pub scan-spec : {M : Type 1} → statement M
 scan-spec =
@@ -107,26 +101,24 @@ scan-spec =
     returns
     numbers-requires
     loop-holds
-    rec-at-requires
     expected-requires
     less-requires
     is-name-requires
     add-i
     loop-less
     loop-again
-    row-of-requires
-    may-stand-requires
-    same-length
-    returns-2
-    cast-count
-    add-if4
-    sub-if4
-    add-if4-2
-    same-length-2
-    returns-3
-    push-children-requires
+    add-left
+    sub-left
+    is-var-requires
+    push-name-requires
     add-i-2
     loop-less-2
     loop-again-2
-    same-length-3
-    returns-4)
+    take-requires
+    same-length
+    returns-2
+    add-i-3
+    loop-less-3
+    loop-again-3
+    same-length-2
+    returns-3)
