@@ -112,7 +112,8 @@ fn argument(pos: u32, k: usize) -> Rec
     }
 }
 
-// Appends the record made of that at slot i: a copy of it, or a MacroArg.
+// Appends the record made of that at slot i: a copy of it, or a MacroArg. Each way reads the record itself: of what a copy wants all of, a
+// MacroArg wants little.
 fn append_made(text: &[u8], pattern: &[u8], i: usize, params: &[u8], out: &mut [u8], o: usize, room: usize) -> Appended
     requires { ⌜ i < slots (now pattern) ⌝ }
     requires { ⌜ slots (now pattern) ≤ 65536 ⌝ }
@@ -121,14 +122,15 @@ fn append_made(text: &[u8], pattern: &[u8], i: usize, params: &[u8], out: &mut [
     ensures { λ m. ⌜ AppendedAt room (now (out .entry)) o (now (text .entry)) (now (pattern .entry)) i (now (params .entry)) (now (out .exit)) m ⌝ }
 {
     let f = parameter_at(text, pattern, i, params);
-    let r = rec_at(pattern, i);
     let Found::At(k) = f else {
+        let r = rec_at(pattern, i);
         let written = append(out, o, r, room);
         return Appended {
             written,
             next: i + 1,
         };
     };
+    let r = rec_at(pattern, i);
     let next = after_parameter(r.kind, i);
     let written = append(out, o, argument(r.pos, k), room);
     Appended { written, next }

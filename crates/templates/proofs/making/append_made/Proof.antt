@@ -6,26 +6,29 @@ use Rattle.templates.proofs.making.append_made.Tie as tie
 parameter-at-requires : tie.Need-parameter-at-requires
 parameter-at-requires c κs = search needs
 
-rec-at-requires : tie.Need-rec-at-requires
-rec-at-requires c κs = search needs
-
 enum-known-f : tie.Need-enum-known-f
 enum-known-f c = search needs
 
 enum-told : tie.Need-enum-told
 enum-told c = search needs
 
+rec-at-requires : tie.Need-rec-at-requires
+rec-at-requires c κs = search needs
+
 append-requires : tie.Need-append-requires
 append-requires c κs = search needs
 
-add-t16 : tie.Need-add-t16
-add-t16 c = search needs
+add-t17 : tie.Need-add-t17
+add-t17 c = search needs
 
 same-length : tie.Need-same-length
 same-length c = search needs
 
 returns : tie.Need-returns
 returns c = search copy-appended
+
+rec-at-requires-2 : tie.Need-rec-at-requires-2
+rec-at-requires-2 c κs = search needs
 
 after-parameter-requires : tie.Need-after-parameter-requires
 after-parameter-requires c κs = search needs
@@ -47,13 +50,14 @@ append-made-spec =
     tie.close
     (tie.spec
     parameter-at-requires
-    rec-at-requires
     enum-known-f
     enum-told
+    rec-at-requires
     append-requires
-    add-t16
+    add-t17
     same-length
     returns
+    rec-at-requires-2
     after-parameter-requires
     argument-requires
     append-requires-2
