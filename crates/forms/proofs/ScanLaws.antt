@@ -40,11 +40,11 @@ module _ (t s below l : ℕ) (a : List ℕ) (r q : Rec) (w : Row) (b : Bool)
 
   pub take-no : not b ≡ true → Taken t s q below l a a 65537
   take-no e = rw (← read) (record {
-      stands = λ h. absurd (omega arith);
-      pushed = λ h. absurd (omega arith);
-      inside = λ h. absurd (omega arith);
-      refused = λ h base rs k. rw (← judged, not-true b e) (false-and _);
-    })
+    stands = λ h. absurd (omega arith);
+    pushed = λ h. absurd (omega arith);
+    inside = λ h. absurd (omega arith);
+    refused = λ h base rs k. rw (← judged, not-true b e) (false-and _);
+  })
 
   pub take-short : not b ≡ false → l < below + r .count → Taken t s q below l a a 65537
   take-short e h =
@@ -60,11 +60,11 @@ module _ (t s below l : ℕ) (a : List ℕ) (r q : Rec) (w : Row) (b : Bool)
   pub take-all : (a′ : List ℕ) (y : ℕ) → not b ≡ false → below + r .count ≤ l → l ≤ 65536 → Pushed a a′ below y (sortsOf w (r .count)) → y ≡ below + r .count
       → Taken t s q below l a a′ y
   take-all a′ y e h m p k = rw (← read) (record {
-      stands = λ x. sym judged ∙ not-false b e;
-      pushed = λ x. pushed-row a a′ below y r w found p;
-      inside = λ x. omega arith;
-      refused = λ x. absurd (omega arith);
-    })
+    stands = λ x. sym judged ∙ not-false b e;
+    pushed = λ x. pushed-row a a′ below y r w found p;
+    inside = λ x. omega arith;
+    refused = λ x. absurd (omega arith);
+  })
 
 -- where a Var was seen there is room for its name
 module _ (n i below s : ℕ) (r : Rec) (b : Bool) (taken : VarTaken below (n - (i + 1)) s r b) (ok : b ≡ true) where
