@@ -47,10 +47,6 @@ unfolding pending
 pending-rest s zero = refl
 pending-rest s (suc n) = let e : suc n - 1 ≡ n = omega arith in rw e
 
-pub pending-none : (s : List ℕ) → pending s 0 ≡ []
-unfolding pending
-pending-none s = refl
-
 -- ---- pushes
 
 -- there is room for one more

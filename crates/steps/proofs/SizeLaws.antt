@@ -17,7 +17,7 @@ use Rattle.tokens.specs.declared.Token.{Token}
 use Rattle.tokens.specs.Token.{tokenCount, tokenAt, isLparen, isRparen, isSymbol, isInt, isAt, isConst, isWord}
 use Rattle.tokens.specs.Ident.{identRefusal}
 use Rattle.tokens.specs.Input.{Input, input, peek, size}
-use Rattle.tokens.proofs.TokenLaws.{kind-inside, word-kind, const-kind}
+use Rattle.tokens.proofs.TokenLaws.{kind-inside, word-kind}
 use Rattle.steps.specs.declared.Refusal.{Refusal}
 use Rattle.steps.specs.declared.Parsed.{Parsed}
 use Rattle.steps.specs.declared.Parsed.the-variants.{Accepted, Refused}
@@ -174,9 +174,6 @@ int-kinded = record { kind = 4; positive = omega arith; is = λ t e. eqb-true (t
 pub at-kinded : Kinded isAt
 unfolding isAt
 at-kinded = record { kind = 5; positive = omega arith; is = λ t e. eqb-true (t .kind) 5 e }
-
-pub const-kinded : (text : List ℕ) → Kinded (isConst text)
-const-kinded text = record { kind = 3; positive = omega arith; is = const-kind text }
 
 pub word-kinded : (text w : List ℕ) → Kinded (isWord text w)
 word-kinded text w = record { kind = 3; positive = omega arith; is = word-kind text w }

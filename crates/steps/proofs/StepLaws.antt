@@ -24,7 +24,7 @@ use Rattle.tokens.specs.declared.Token.{Token}
 use Rattle.tokens.specs.Token.{tokenCount, tokenAt, kindAt, pastLast, isKind, isLparen, isRparen, isSymbol, isAt, isConst, isWord}
 use Rattle.tokens.specs.Ident.{identRefusal}
 use Rattle.tokens.specs.Input.{Input, input, peek}
-use Rattle.tokens.proofs.TokenLaws.{kind-inside, kind-is, word-kind}
+use Rattle.tokens.proofs.TokenLaws.{kind-inside, kind-is, word-kind, const-kind}
 use Rattle.steps.specs.declared.Refusal.{Refusal}
 use Rattle.steps.specs.declared.Parsed.{Parsed}
 use Rattle.steps.specs.declared.Parsed.the-variants.{Accepted, Refused}
@@ -154,10 +154,6 @@ next-there tokens end i k t r a b c z h =
     omega (arith, kind-inside tokens end i k (ap (λ (y : Token). y .kind) (sym a) ∙ x) z)
 
 module _ (tokens : List ℕ) (end i : ℕ) (t : Token) (r : Bool) where
-  pub lparen-fits : t ≡ tokenAt tokens end i → r ≡ isLparen t → r ≡ true → length tokens < 2 ^ 64 → i < 2 ^ 63
-  unfolding isLparen
-  lparen-fits a b c h = next-there tokens end i 1 t r a b c (omega arith) h
-
   pub word-fits : (text w : List ℕ) → t ≡ tokenAt tokens end i → r ≡ isWord text w t → r ≡ true → length tokens < 2 ^ 64 → i < 2 ^ 63
   word-fits text w a b c h = next-there tokens end i 3 t true a (sym (eq-eqb (t .kind) 3 (word-kind text w t (sym b ∙ c)))) refl (omega arith) h
 
@@ -248,12 +244,8 @@ pub const-tested : (text : List ℕ) (t : Token) (r : Bool) → r ≡ isConst te
 const-tested text t r e h = sym e ∙ h
 
 pub const-told : (text : List ℕ) (t : Token) → isConst text t ≡ true → isSymbol t ≡ true
-unfolding isConst isSymbol
-const-told text t e = go (eqb (t .kind) 3) refl e
-  where
-    go : (b : Bool) → eqb (t .kind) 3 ≡ b → pick b (eqb (getD (spelled text (t .word1)) 0 0) 36) false ≡ true → eqb (t .kind) 3 ≡ true
-    go true q h = q
-    go false q h = let z : _≡_ {A = ℕ} 0 1 = cc in absurd (omega arith)
+unfolding isSymbol
+const-told text t e = eq-eqb (t .kind) 3 (const-kind text t e)
 
 module _ (text : List ℕ) (pos range i n k : ℕ) (b : List ℕ) (c : ℕ) (l : List ℕ) (e : b ≡ spelled text range) where
   pub name-put : (l′ : List ℕ) (x : Parsed) → c ≡ identRefusal b → Met (identAt pos range c i) n k l l′ x → Met (identAt pos range (identRefusal (spelled text range)) i) n k l l′ x

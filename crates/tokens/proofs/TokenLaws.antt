@@ -74,9 +74,6 @@ kind-inside tokens end i k e h = go (ltb i (tokenCount tokens)) refl e
     go false p q = absurd (omega arith)
 
 -- what the tests say of the kind
-pub is-kind : (t : Token) (k : ℕ) → eqb (t .kind) k ≡ true → t .kind ≡ k
-is-kind t k e = eqb-true (t .kind) k e
-
 pub word-kind : (text w : List ℕ) (t : Token) → isWord text w t ≡ true → t .kind ≡ 3
 unfolding isWord
 word-kind text w t e = go (eqb (t .kind) 3) refl e
