@@ -104,7 +104,7 @@ pub fn token_at(tokens: &[u8], end: u32, at: usize) -> Token
     }
 }
 
-// Its kind alone, for a test of what stands next: one byte is looked at.
+// Its kind alone, for a test of what stands next; compiled, it reads one byte.
 pub fn kind_at(tokens: &[u8], at: usize) -> u8
     ensures { λ r. ⌜ r ≡ kindAt (now (tokens .entry)) at ⌝ }
 {
