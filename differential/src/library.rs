@@ -1,5 +1,6 @@
-//! The C interface of the library, as include/isle.h declares it. The entries on record lists
-//! are there only when the library has them.
+//! The C interface of the library, as include/isle.h declares it.
+
+use differential::steps::Lists;
 
 #[link(name = "isle", kind = "static")]
 unsafe extern "C" {
@@ -9,6 +10,38 @@ unsafe extern "C" {
         text: *const u8,
         text_length: usize,
         end: u32,
+        out: *mut u8,
+        out_length: usize,
+    ) -> u64;
+    fn isle_make_template(
+        text: *const u8,
+        text_length: usize,
+        pattern: *const u8,
+        pattern_length: usize,
+        params: *const u8,
+        params_length: usize,
+        out: *mut u8,
+        out_length: usize,
+    ) -> u64;
+    fn isle_substitute(
+        text: *const u8,
+        text_length: usize,
+        template: *const u8,
+        template_length: usize,
+        patterns: *const u8,
+        patterns_length: usize,
+        out: *mut u8,
+        out_length: usize,
+    ) -> u64;
+    fn isle_open(
+        text: *const u8,
+        text_length: usize,
+        defs: *const u8,
+        defs_length: usize,
+        pattern: *const u8,
+        pattern_length: usize,
+        store: *mut u8,
+        store_length: usize,
         out: *mut u8,
         out_length: usize,
     ) -> u64;
@@ -31,7 +64,6 @@ pub fn read(tokens: &[u8], text: &[u8], end: u32, out: &mut [u8]) -> u64 {
 }
 
 /// Calls an entry on the text and the two lists, with these outputs.
-#[cfg(any(has_templates, has_opening))]
 macro_rules! call {
     ($entry:expr, $lists:expr, $($out:expr),+) => {
         unsafe {
@@ -48,68 +80,14 @@ macro_rules! call {
     };
 }
 
-#[cfg(has_templates)]
-mod templates {
-    use differential::steps::Lists;
-
-    unsafe extern "C" {
-        fn isle_make_template(
-            text: *const u8,
-            text_length: usize,
-            pattern: *const u8,
-            pattern_length: usize,
-            params: *const u8,
-            params_length: usize,
-            out: *mut u8,
-            out_length: usize,
-        ) -> u64;
-        fn isle_substitute(
-            text: *const u8,
-            text_length: usize,
-            template: *const u8,
-            template_length: usize,
-            patterns: *const u8,
-            patterns_length: usize,
-            out: *mut u8,
-            out_length: usize,
-        ) -> u64;
-    }
-
-    pub fn make_template(lists: &Lists, out: &mut [u8]) -> u64 {
-        call!(isle_make_template, lists, out)
-    }
-
-    pub fn substitute(lists: &Lists, out: &mut [u8]) -> u64 {
-        call!(isle_substitute, lists, out)
-    }
+pub fn make_template(lists: &Lists, out: &mut [u8]) -> u64 {
+    call!(isle_make_template, lists, out)
 }
 
-#[cfg(has_templates)]
-pub use templates::*;
-
-#[cfg(has_opening)]
-mod opening {
-    use differential::steps::Lists;
-
-    unsafe extern "C" {
-        fn isle_open(
-            text: *const u8,
-            text_length: usize,
-            defs: *const u8,
-            defs_length: usize,
-            pattern: *const u8,
-            pattern_length: usize,
-            store: *mut u8,
-            store_length: usize,
-            out: *mut u8,
-            out_length: usize,
-        ) -> u64;
-    }
-
-    pub fn open(lists: &Lists, store: &mut [u8], out: &mut [u8]) -> u64 {
-        call!(isle_open, lists, store, out)
-    }
+pub fn substitute(lists: &Lists, out: &mut [u8]) -> u64 {
+    call!(isle_substitute, lists, out)
 }
 
-#[cfg(has_opening)]
-pub use opening::*;
+pub fn open(lists: &Lists, store: &mut [u8], out: &mut [u8]) -> u64 {
+    call!(isle_open, lists, store, out)
+}

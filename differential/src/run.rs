@@ -3,11 +3,8 @@
 mod library;
 mod limits;
 mod reading;
-#[cfg(any(has_templates, has_opening))]
 mod run_lists;
-#[cfg(has_opening)]
 mod run_opening;
-#[cfg(has_templates)]
 mod run_templates;
 
 use differential::generate::Random;
@@ -87,11 +84,9 @@ fn compare() -> Result<(), String> {
     }
     limits::compare(&mut counts)?;
     println!("{}", counts.line("isle_read"));
-    #[cfg(has_templates)]
     for line in run_templates::compare(&mut random, count / 4)? {
         println!("{line}");
     }
-    #[cfg(has_opening)]
     println!("{}", run_opening::compare(&mut random, count / 4)?);
     Ok(())
 }
