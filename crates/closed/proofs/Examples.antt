@@ -45,5 +45,5 @@ seven : length (recordsAll tree) ≤ 16
 unfolding records tree id count
 seven = omega arith
 
-pub rule-closed : Closed accepted (number (done tree)) (bytes 384 (done tree)) tree
+pub rule-closed : Closed accepted (number (done tree)) (bytes 384 (done tree))
 rule-closed = closed accepted 384 tree (record { byte = low-at (accepted .tokens) tokens-low; end = end-low }) (exact accepted 16 tree .1 (derived, seven))

@@ -20,7 +20,7 @@ use Rattle.forms.specs.Kinds.{rows, find, rowFor}
 use Rattle.forms.specs.Forms.{placed, one, leading, positionOk, wordsOk}
 use Rattle.closed.proofs.Rows as made
 use Rattle.closed.proofs.Rows.{Narrow, Fits, Row, end, next, Several, Run, stop, step, row-then, one-more, several-more, in-place, headed, fits-fixed, fits-spread, fits-last}
-use Rattle.closed.specs.Closed.{Lent}
+use Rattle.closed.proofs.Lent.{Lent}
 use Rattle.closed.proofs.Symbols.{Inside, inside, cut-inside}
 use Rattle.closed.proofs.Widths.{low-range, at, bare, both-words}
 

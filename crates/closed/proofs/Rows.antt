@@ -20,7 +20,7 @@ use Rattle.forms.specs.Forms.{placed, one, run, some, singles, leading, sortsOf
 use Rattle.forms.specs.Lists.{MacroArg}
 use Rattle.forms.proofs.TestLaws.{both, true-and}
 use Rattle.forms.proofs.Exact.{length-one}
-use Rattle.closed.specs.Closed.{Lent}
+use Rattle.closed.proofs.Lent.{Lent}
 
 -- ---- trees
 

@@ -10,7 +10,7 @@ use Rattle.trees.proofs.Laws.{count-size}
 use Rattle.records.specs.Slots.{slots, recsFrom, recs, writes}
 use Rattle.records.proofs.BackLaws.{AllSized, bytesAll, length-bytesAll, writes-front, recsFrom-back}
 use Rattle.tokens.specs.Input.{Input}
-use Rattle.closed.specs.Closed.{Lent}
+use Rattle.closed.proofs.Lent.{Lent}
 use Rattle.closed.proofs.Rows.{PlainTree, plain, PlainTrees, no-tree, and-tree}
 
 sized-append : (rs us : List Rec) → AllSized rs → AllSized us → AllSized (rs ++ us)

@@ -17,7 +17,8 @@ use Rattle.forms.proofs.Exact.{complete}
 use Rattle.forms.proofs.SkipLaws.{macroArg-agrees}
 use Rattle.forms.proofs.DepthLaws.{deep-agrees}
 use Rattle.forms.proofs.FirstLaws.{length-kindsAll, length-depthsAll}
-use Rattle.closed.specs.Closed.{Taken, Lent, kept, Closed}
+use Rattle.closed.specs.Closed.{Taken, kept, Closed}
+use Rattle.closed.proofs.Lent.{Lent}
 use Rattle.closed.proofs.Rows.{Several, several-kinds, several-plain}
 use Rattle.closed.proofs.Depths.{absent-first, plain-trees, shallow-trees}
 use Rattle.closed.proofs.Sizes.{sized-trees, Again, again}
@@ -57,16 +58,16 @@ kept-again : {s : Input} {ts : Trees} (n : ℕ) → Derived s ts → Lent s → 
 unfolding bytes
 kept-again {s} {ts} n d l h = again (recordsAll ts) n (countOf (number (done ts))) (counted d) (sized d l) (omega (arith, counted d))
 
-accepted-closed : {s : Input} {ts : Trees} (n : ℕ) → Derived s ts → Lent s → length (recordsAll ts) ≤ n / 24 → Closed s (number (done ts)) (bytes n (done ts)) ts
+accepted-closed : {s : Input} {ts : Trees} (n : ℕ) → Derived s ts → Lent s → length (recordsAll ts) ≤ n / 24 → Closed s (number (done ts)) (bytes n (done ts))
 accepted-closed {s} {ts} n d l h =
     let b = kept-again n d l h in
-    record { whole = b .whole; back = b .back; taken = subst (Taken (length (s .text))) (sym (b .back)) (taken d) }
+    record { trees = ts; derived = d; whole = b .whole; back = b .back; taken = subst (Taken (length (s .text))) (sym (b .back)) (taken d) }
 
 -- CLOSED: where reading accepts with an output of n bytes, what is lent on is a list that opening takes
-pub closed : (s : Input) (n : ℕ) (ts : Trees) → Lent s → reading s (n / 24) ≡ done ts → Closed s (number (done ts)) (bytes n (done ts)) ts
+pub closed : (s : Input) (n : ℕ) (ts : Trees) → Lent s → reading s (n / 24) ≡ done ts → Closed s (number (done ts)) (bytes n (done ts))
 closed s n ts l e = let d = exact s (n / 24) ts .0 e in accepted-closed n (d .0) l (d .1)
 
 -- the same from what `isle_read` promises: if the returned number says that it accepted
-pub worth-closed : {s : Input} {n r : ℕ} {l : List ℕ} → Lent s → Worth s (n / 24) n r l → refusalOf r ≡ 0 → (ts : Trees) × Closed s r l ts
-worth-closed {n = n} b (accepted {ts = ts} a) e = (ts, accepted-closed n (a .derived) b (a .fits))
+pub worth-closed : {s : Input} {n r : ℕ} {l : List ℕ} → Lent s → Worth s (n / 24) n r l → refusalOf r ≡ 0 → Closed s r l
+worth-closed {n = n} b (accepted a) e = accepted-closed n (a .derived) b (a .fits)
 worth-closed b (refused f) e = absurd (omega (arith, positive-if-refused f))

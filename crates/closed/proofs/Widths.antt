@@ -8,7 +8,7 @@ use Rattle.trees.specs.Tree.{head}
 use Rattle.words.specs.Words.{halfAt, wordAt}
 use Rattle.tokens.specs.Token.{tokenOf, pastLast, tokenAt}
 use Rattle.tokens.specs.Input.{Input, peek, posAt, size}
-use Rattle.closed.specs.Closed.{Lent}
+use Rattle.closed.proofs.Lent.{Lent}
 use Rattle.closed.proofs.Rows.{Narrow}
 use Rattle.closed.proofs.Symbols.{Inside}
 

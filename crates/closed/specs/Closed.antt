@@ -1,15 +1,16 @@
 -- What reading writes, opening takes (document 01): as a definition list, the records give no ground for the refusals 7, 3, 4 and 8,
 -- and their bytes none for 1. What opening may still refuse is what the extractors say to each other (30 to 33), or space (6).
-use Prim.Native.Nat.{ℕ, _*_, _%_, _<_, _≤_}
+use Prim.Native.Nat.{ℕ, _*_, _%_, _≤_}
 use mathlib.Core.Path.{_≡_}
 use mathlib.Core.Bool.{true}
 use mathlib.Core.List.{List}
-use lib.ListN.{length, getD, take}
+use lib.ListN.{length, take}
 use Rattle.trees.specs.declared.Rec.{Rec}
 use Rattle.trees.specs.Tree.{Trees, recordsAll}
 use Rattle.records.specs.Slots.{recs}
 use Rattle.records.specs.Result.{countOf}
 use Rattle.tokens.specs.Input.{Input}
+use Rattle.grammar.specs.Meaning.{Derived}
 use Rattle.forms.specs.Kinds.{definition}
 use Rattle.forms.specs.Forms.{isMany}
 use Rattle.forms.specs.Lists.{firstMacroArg}
@@ -26,17 +27,15 @@ pub record Taken (t : ℕ) (rs : List Rec) : Type 0 where
   pub no-arg : firstMacroArg rs ≡ length rs
   pub shallow : firstDeepIn rs ≡ length rs
 
--- numbers as they are lent: the tokens are bytes, the end position has 32 bits
-pub record Lent (s : Input) : Type 0 where
-  pub byte : (i : ℕ) → getD (s .tokens) i 0 < 256
-  pub end : s .end < 4294967296
-
 -- the part of an output l that is lent on: as many records as the returned number r counts
 abbrev pub kept : ℕ → List ℕ → List ℕ
 kept r l = take (countOf r * 24) l
 
--- reading returned r and left l: the bytes lent on are whole records, those of the trees ts, and a list that opening takes
-pub record Closed (s : Input) (r : ℕ) (l : List ℕ) (ts : Trees) : Type 0 where
+-- reading accepted, returned r and left l: the bytes lent on are whole records, those of the trees that the grammar derives, and a list
+-- that opening takes
+pub record Closed (s : Input) (r : ℕ) (l : List ℕ) : Type 0 where
+  pub trees : Trees
+  pub derived : Derived s trees
   pub whole : length (kept r l) % 24 ≡ 0
-  pub back : recs (kept r l) ≡ recordsAll ts
+  pub back : recs (kept r l) ≡ recordsAll trees
   pub taken : Taken (length (s .text)) (recs (kept r l))

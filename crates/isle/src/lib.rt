@@ -3,10 +3,12 @@ ghost use mathlib.Core.Path.{_≡_};
 ghost use Prim.Native.Nat.{ℕ, _/_};
 ghost use lib.ListN.{length};
 ghost use Rattle.records.specs.Slots.{slots};
+ghost use Rattle.records.specs.Result.{refusalOf};
 ghost use Rattle.tokens.specs.Input.{Input, input};
 ghost use Rattle.parser.specs.Reading.{reading};
 ghost use Rattle.reading.specs.Answered.{Answered};
 ghost use Rattle.grammar.specs.Meaning.{Worth};
+ghost use Rattle.closed.specs.Closed.{Closed};
 ghost use Rattle.templating.specs.Calls.{Ended, making, substituting};
 ghost use Rattle.openings.specs.Calls.{Left, openingOf};
 ghost use Rattle.openings.specs.Meaning.{OpeningWorth};
@@ -19,6 +21,7 @@ ghost use Rattle.openings.specs.Meaning.{OpeningWorth};
 pub extern "C" fn isle_read(tokens: &[u8], text: &[u8], end: u32, out: &mut [u8]) -> u64
     ensures answer { λ r. ⌜ Answered (reading (input (now (tokens .entry)) (now (text .entry)) end) (slots (now (out .entry)))) (length (now (out .entry))) (now (out .exit)) r ⌝ }
     ensures meaning { λ r. ⌜ Worth (input (now (tokens .entry)) (now (text .entry)) end) (slots (now (out .entry))) (length (now (out .entry))) r (now (out .exit)) ⌝ }
+    ensures closed { λ r. ⌜ (refusalOf r ≡ 0 → Closed (input (now (tokens .entry)) (now (text .entry)) end) r (now (out .exit))) ⌝ }
 {
     reading::read(tokens, text, end, out)
 }
