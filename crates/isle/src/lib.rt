@@ -1,4 +1,5 @@
-// The entries for C. A slice is a pointer and a length; no output may overlap another buffer. Nothing is asked of the caller.
+// The entries for C. A slice is a pointer and a length. Of lengths and contents nothing is asked; what the caller owes is that an output
+// overlaps no other buffer of the call.
 ghost use mathlib.Core.Path.{_≡_};
 ghost use Prim.Native.Nat.{ℕ, _/_};
 ghost use lib.ListN.{length};
