@@ -202,7 +202,7 @@ fn more_defs(tokens: &[u8], p: Parsed) -> bool
     let Parsed::Accepted { next, count: _, items: _ } = p else {
         return false;
     };
-    next < tokens.len() / 24
+    next < tokens.len() / Token::WIDTH
 }
 
 // All definitions, to the last token.

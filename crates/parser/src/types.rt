@@ -262,7 +262,7 @@ fn modifiers_from(tokens: &[u8], text: &[u8], end: u32, from: usize) -> Modifier
     let mut at = from;
     let mut e: u8 = 0;
     let mut n: u8 = 0;
-    while at < tokens.len() / 24 {
+    while at < tokens.len() / Token::WIDTH {
         let t = modifier(tokens, text, end, at, e, n);
         if !t.more {
             return Modifiers {

@@ -3,6 +3,7 @@ use parser::parse_defs;
 use records::accepted;
 use records::refused;
 use steps::Parsed;
+use tokens::Token;
 use tokens::lent::first_bad;
 use words::clear;
 use words::clear_from;
@@ -62,14 +63,14 @@ fn read_good(tokens: &[u8], text: &[u8], end: u32, out: &mut [u8]) -> u64
 pub fn read(tokens: &[u8], text: &[u8], end: u32, out: &mut [u8]) -> u64
     ensures { λ r. ⌜ Answered (reading (input (now (tokens .entry)) (now (text .entry)) end) (slots (now (out .entry)))) (length (now (out .entry))) (now (out .exit)) r ⌝ }
 {
-    let count = tokens.len() / 24;
+    let count = tokens.len() / Token::WIDTH;
     if 16384 < count {
         return refuse(out, 7, 0);
     }
     if 65536 < text.len() {
         return refuse(out, 7, 0);
     }
-    if tokens.len() % 24 != 0 {
+    if tokens.len() % Token::WIDTH != 0 {
         return refuse(out, 1, 0);
     }
     let bad = first_bad(tokens, text, end);

@@ -4,6 +4,7 @@
 use reading::read;
 use records::rec_at;
 use records::slots;
+use tokens::Token;
 use trees::Rec;
 use words::word;
 ghost use mathlib.Core.Path.{_≡_};
@@ -127,7 +128,7 @@ fn limited(count: u64, chars: u64, end: u32) {
     lend(
         &mut tokens,
         &mut text,
-        count as usize * 24,
+        count as usize * Token::WIDTH,
         chars as usize,
         end,
     );

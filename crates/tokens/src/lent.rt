@@ -1,4 +1,5 @@
 // A lent token list: the first record that is no good token (refusal 2).
+use crate::Token;
 use crate::names::greater;
 use crate::names::spelling;
 use words::word;
@@ -22,18 +23,18 @@ fn is_ascii(s: &[u8]) -> bool
 }
 
 // How far a token's range may reach: a symbol's to the end of the text, the others have none.
-fn reach(text: &[u8], kind: u64) -> u64
+fn reach(text: &[u8], kind: u8) -> u64
     ensures { λ r. ⌜ r ≡ reach (now (text .entry)) kind ⌝ }
 {
-    if kind == 3 { text.len() as u64 } else { 0 }
+    if kind == Token::SYMBOL { text.len() as u64 } else { 0 }
 }
 
 // A symbol's bytes are looked at only where the whole text is not below 128.
-fn is_good_value(text: &[u8], plain: bool, kind: u64, b: u64, c: u64) -> bool
+fn is_good_value(text: &[u8], plain: bool, kind: u8, b: u64, c: u64) -> bool
     requires { ⌜ plain ≡ ascii (now text) ⌝ }
     ensures { λ r. ⌜ r ≡ goodValue (now (text .entry)) kind b c ⌝ }
 {
-    if kind == 4 {
+    if kind == Token::INT {
         return true;
     }
     if c != 0 {
@@ -52,11 +53,11 @@ fn is_good_words(text: &[u8], plain: bool, end: u32, a: u64, b: u64, c: u64) -> 
     requires { ⌜ plain ≡ ascii (now text) ⌝ }
     ensures { λ r. ⌜ r ≡ goodWords (now (text .entry)) end a b c ⌝ }
 {
-    let kind = a / 1152921504606846976;
-    if kind == 0 {
+    let kind = (a / 1152921504606846976) as u8;
+    if kind == Token::NONE {
         return false;
     }
-    if 5 < kind {
+    if Token::AT < kind {
         return false;
     }
     if a / 4294967296 % 268435456 != 0 {
@@ -73,7 +74,7 @@ fn is_good(tokens: &[u8], text: &[u8], plain: bool, end: u32, at: usize) -> bool
     requires { ⌜ at < tokenCount (now tokens) ⌝ }
     ensures { λ r. ⌜ r ≡ goodToken (now (tokens .entry)) (now (text .entry)) end at ⌝ }
 {
-    let k = at * 24;
+    let k = at * Token::WIDTH;
     let a = word(tokens, k);
     let b = word(tokens, k + 8);
     let c = word(tokens, k + 16);
@@ -84,7 +85,7 @@ fn is_good(tokens: &[u8], text: &[u8], plain: bool, end: u32, at: usize) -> bool
 pub fn first_bad(tokens: &[u8], text: &[u8], end: u32) -> usize
     ensures { λ r. ⌜ r ≡ firstBad (now (tokens .entry)) (now (text .entry)) end ⌝ }
 {
-    let count = tokens.len() / 24;
+    let count = tokens.len() / Token::WIDTH;
     let plain = is_ascii(text);
     let mut i = 0;
     while i < count {

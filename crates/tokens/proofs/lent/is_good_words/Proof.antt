@@ -3,6 +3,9 @@ use borrow.Author.Needs.{needs}
 use Rattle.tokens.proofs.lent.is_good_words.Statement.{statement}
 use Rattle.tokens.proofs.lent.is_good_words.Tie as tie
 
+cast-kind : tie.Need-cast-kind
+cast-kind c = search needs
+
 returns : tie.Need-returns
 returns c = search words-none
 
@@ -23,4 +26,4 @@ returns-5 c = search words-value
 
 pub is-good-words-spec : {M : Type 1} → statement M
 is-good-words-spec =
-    tie.close (tie.spec returns returns-2 returns-3 returns-4 is-good-value-requires returns-5)
+    tie.close (tie.spec cast-kind returns returns-2 returns-3 returns-4 is-good-value-requires returns-5)
