@@ -1,4 +1,4 @@
--- The starred examples of document 01 for reading hold, and the theorem of the grammar at two of them. Assumes nothing.
+-- The theorem of the grammar at two examples of document 01. Assumes nothing.
 use Prim.Native.Nat.{ℕ}
 use native.Mathlib.Omega.{arith}
 use mathlib.Core.Path.{_≡_, refl}
@@ -18,12 +18,8 @@ use Rattle.parser.specs.Types.{parseStructField, parseStructFields, parseTupleF
 use Rattle.parser.specs.Defs.{declFlags, declModifiers, declNames, parseDecl, parseExtern, ruleName, isI64, rulePriority, ruleFlags, ruleParts, parseRule, restDef, parseDef, parseDefs}
 use Rattle.parser.specs.Reading.{done, stopped, fitted, judged, reading}
 use Rattle.grammar.specs.Meaning.{Derived}
-use Rattle.grammar.specs.Examples.{case, answers, readings, table, accepted, tree, refused}
+use Rattle.grammar.specs.Examples.{accepted, tree, refused}
 use Rattle.grammar.proofs.Theorem.{exact}
-
-pub as-written : readings table ≡ answers table
-unfolding case answers readings table tok sym id be8 be4 wordAt halfAt sameBytes spelled _⧺_ count records recordsAll tokenAt isLparen isRparen isSymbol isInt isAt isConst isWord letter starts goesOn allGoOn identRefusal ascii goodSymbol goodValue goodWords goodToken badFrom before andThen _⊳_ nodeOf parent flagged bare leaf nothing refuseFrom refuseAfter ifNext ifSecond thenAt itemsFrom manyAt many unexpected expectAt ate eat identAt nameBy parseIdent constRefusal parseConst refusedAs compound patternIn parsePattern parseLetdef letInside parseExprInnerParens exprIn parseExpr parseIflet parseIfletIf parseIfletOrExpr noIflet parseStructField parseStructFields parseTupleField parseTupleFields parseFields parseTypeVariant parseTypevalue modifierFlags modifiersEnd parseModifiers parseType declFlags declModifiers declNames parseDecl parseExtern ruleName isI64 rulePriority ruleFlags ruleParts parseRule restDef parseDef parseDefs fitted judged reading
-as-written = refl
 
 -- the tree of `(rule (A x) y)` comes out
 read : reading accepted 16 ≡ done tree
