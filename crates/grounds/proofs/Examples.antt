@@ -1,4 +1,4 @@
--- The example of document 01 on the whole answer, and a refusal of each kind, by computation.
+-- Refusals of opening, by computation.
 use mathlib.Core.Path.{_≡_, refl}
 use mathlib.Core.Bool.{true, false}
 use mathlib.Core.Option.{some}
@@ -26,7 +26,7 @@ abbrev answerIn : Outcome → List ℕ
 answerIn (accept store output) = 0 ∷ length store ∷ length output ∷ []
 answerIn (refuse r) = r .number ∷ r .place ∷ []
 
--- a MacroArg in the pattern, the extractors in the wrong order, P twice, an argument too many
+-- too small a store; a MacroArg in the pattern, the extractors in the wrong order, P twice, an argument too many
 unfoldable pub arg : Tree
 arg = node (macroArg 0 0) ∅
 
@@ -36,18 +36,13 @@ twice = node (plain Extractor 11) (name 12 ▸ name 14 ▸ var 22 ▸ ∅) ▸ d
 unfoldable pub more : Tree
 more = node (plain Pattern·Term 56) (name 57 ▸ var 59 ▸ var 59 ▸ ∅)
 
-pub answers : answerIn (opening source definitions Qz 10 11)
-    ∷ answerIn (opening source definitions Qz 10 10)
-    ∷ answerIn (opening source definitions Qz 9 10)
+pub answers : answerIn (opening source definitions Qz 9 10)
     ∷ answerIn (opening source definitions arg 10 11)
     ∷ answerIn (opening source swapped Qz 10 11)
     ∷ answerIn (opening source twice Qz 10 11)
     ∷ answerIn (opening source definitions more 10 11)
     ∷ []
-    -- `(Q z)` opens to 11 records, the store gets 10; space for 10 gives 6
-    ≡ (0 ∷ 10 ∷ 11 ∷ [])
-    ∷ (6 ∷ 1 ∷ [])
-    ∷ (6 ∷ 0 ∷ [])
+    ≡ (6 ∷ 0 ∷ [])
     ∷ (4 ∷ 17 ∷ [])
     ∷ (32 ∷ 3 ∷ [])
     ∷ (30 ∷ 5 ∷ [])
