@@ -14,7 +14,7 @@ use Rattle.records.specs.Result.{refused, refusalOf}
 use Rattle.expansion.specs.Nodes.{treeAt, isExtractor, isVar, isBind, isTerm, isWildcard, isMacroArg}
 use Rattle.expansion.specs.Templates.{position, standsFor, makeTemplate, substitute}
 use Rattle.expansion.specs.Expansion.{Extractors, find, last, butLast, extractor, extractors, termName, NoCall, template, Steps, inOrder, openBy, openTemplate, openedTemplates, opened, bound}
-use Rattle.expansion.specs.Demand.{Opens}
+use Rattle.expansion.specs.Demand.{Opens, StoreOpens}
 use Rattle.expansion.proofs.Examples as trees
 use Rattle.grounds.specs.Refused.{Refused, macro-arg, deep, many, flawed}
 use Rattle.grounds.specs.Opening.{treeOf, Outcome}
@@ -39,18 +39,20 @@ numbered (deep a b c) e = omega arith
 numbered (many a b c) e = omega arith
 numbered {text} {ds} {p} {n} {k} (flawed a b c d f) e = omega (arith, flawed-plainly text ds p n k .1 d .1)
 
--- of any call: where the number says no refusal, demand 3 holds
+-- of any call: where the number says no refusal, demand 3 holds of the pattern and of each template
 module _ {text defs patt : List ℕ} where
-  unrefused : {s o : ℕ} {c : Outcome} → Meaning text defs patt s o c → refusalOf (number c) ≡ 0 → Opens text (called text defs patt) (pattern text defs patt)
+  unrefused : {s o : ℕ} {c : Outcome} → Meaning text defs patt s o c → refusalOf (number c) ≡ 0
+      → Opens text (called text defs patt) (pattern text defs patt) × StoreOpens text (called text defs patt)
   unfolding number
   unrefused (ill-sized n a b) e = absurd (not-refused n 0 b e)
   unrefused (ill-formed a b) e = absurd (not-refused 3 0 (λ h. omega arith) e)
   unrefused (ground a n k b) e = absurd (not-refused n k (numbered b) e)
   unrefused (store-full a b c) e = absurd (not-refused 6 0 (λ h. omega arith) e)
   unrefused (output-full a b c d) e = absurd (not-refused 6 1 (λ h. omega arith) e)
-  unrefused (accepted a b c d opens templates) e = opens
+  unrefused (accepted a b c d opens templates) e = (opens, templates)
 
-  pub demand : {s o s′ o′ : List ℕ} {r : ℕ} → OpeningWorth text defs patt s o s′ o′ r → refusalOf r ≡ 0 → Opens text (called text defs patt) (pattern text defs patt)
+  pub demand : {s o s′ o′ : List ℕ} {r : ℕ} → OpeningWorth text defs patt s o s′ o′ r → refusalOf r ≡ 0
+      → Opens text (called text defs patt) (pattern text defs patt) × StoreOpens text (called text defs patt)
   demand w e = unrefused (w .meaning) (rw (w .ended .returns) at e)
 
 -- ---- `(Q z)`, and P and Q, as the bytes have them
@@ -73,7 +75,11 @@ Qz-worth = worth source PQ Qz (lent 16) (lent 11) (filled 16 PQ-opened) (filled 
 
 pub Qz-opens : Opens source extractorsPQ patternQz
 unfolding result.accepted
-Qz-opens = demand Qz-worth refl
+Qz-opens = demand Qz-worth refl .0
+
+pub PQ-open : StoreOpens source extractorsPQ
+unfolding result.accepted
+PQ-open = demand Qz-worth refl .1
 
 five : bound source extractorsPQ patternQz ≡ 5
 unfolding bytes rec source PQ Qz be8 be4 wordAt halfAt firsts others treesOf recAt recsFrom treeAt treeOf trees.source

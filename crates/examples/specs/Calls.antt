@@ -54,7 +54,7 @@ pub data Said : Type 0 where
   -- the count, the records in the store and those in the output
   accepts : (count : ℕ) (store output : List ℕ) → Said
 
--- 'an output holds its records, then zeros to its end; after a refusal it is all zero'
+-- 'an output holds its records, then zeros to its end ..; after a refusal it is all zero'
 unfoldable pub filled : ℕ → List ℕ → List ℕ
 filled n l = l ++ replicate (n * 24 - length l) 0
 
