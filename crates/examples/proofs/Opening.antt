@@ -63,10 +63,10 @@ extractorsPQ = called source PQ Qz
 abbrev pub patternQz : Tree
 patternQz = pattern source PQ Qz
 
--- the thirteenth row of the table
+-- the fifteenth row of the table
 row : comesTo (isle-open source PQ Qz 16 11) ≡ said (isle-open source PQ Qz 16 11) (accepts 11 PQ-opened Qz-opened)
 unfolding outcomes expected table
-row = ap (λ answers. getD answers 12 (answer 0 [] [])) as-written
+row = ap (λ answers. getD answers 14 (answer 0 [] [])) as-written
 
 pub Qz-worth : OpeningWorth source PQ Qz (lent 16) (lent 11) (filled 16 PQ-opened) (filled 11 Qz-opened) (result.accepted 11)
 unfolding comesTo said meant

@@ -1,4 +1,4 @@
--- The starred examples of document 01 and its worked rule `(rule (A x) y)`, as one table.
+-- The starred examples of document 01 as one table, with its rule `(rule (A x) y)` and two that stand in a line with a starred one.
 use Prim.Native.Nat.{ℕ, _+_, _*_}
 use Prim.Native.String.{String}
 use mathlib.Core.List.{List, [], _∷_, _++_}
@@ -119,13 +119,16 @@ table =
     ∷ (read "(type T (foo))" (lparen 0 ++ sym 1 4 ++ sym 6 1 ++ lparen 8 ++ sym 9 3 ++ rparen 12 ++ rparen 13) gives 19 at 8)
     -- flags 2, term `pure`
     ∷ (read "(decl multi pure () T)" (lparen 0 ++ sym 1 4 ++ sym 6 5 ++ sym 12 4 ++ lparen 17 ++ rparen 18 ++ sym 20 1 ++ rparen 21)
-      gives accepts 3 [] (rec Decl 2 2 6 0 0 0 ++ ident 12 4 ++ ident 20 1))
+    gives accepts 3 [] (rec Decl 2 2 6 0 0 0 ++ ident 12 4 ++ ident 20 1))
     -- 24; one less is accepted
     ∷ (read "(rule r 9223372036854775808 x y)" (lparen 0 ++ sym 1 4 ++ sym 6 1 ++ int 8 9223372036854775808 ++ sym 28 1 ++ sym 30 1 ++ rparen 31) gives 24 at 6)
     ∷ (read "(rule r 9223372036854775807 x y)" (lparen 0 ++ sym 1 4 ++ sym 6 1 ++ int 8 9223372036854775807 ++ sym 28 1 ++ sym 30 1 ++ rparen 31)
-      gives accepts 7 [] (rec Rule 3 4 6 0 0 0 ++ ident 6 1 ++ rec Priority 0 0 0 2147483647 4294967295 0 ++ var 28 ++ exprVar 30))
+    gives accepts 7 [] (rec Rule 3 4 6 0 0 0 ++ ident 6 1 ++ rec Priority 0 0 0 2147483647 4294967295 0 ++ var 28 ++ exprVar 30))
     ∷ (read "(extern const c T)" (lparen 0 ++ sym 1 6 ++ sym 8 5 ++ sym 14 1 ++ sym 16 1 ++ rparen 17) gives 16 at 14)
-    -- the worked rule
+    -- these two have no star
+    ∷ (read "(pragma a)" (lparen 0 ++ sym 1 6 ++ sym 8 1 ++ rparen 9) gives 17 at 8)
+    ∷ (read "(spec" (lparen 0 ++ sym 1 4) gives 27 at 1)
+    -- the rule whose records the document prints
     ∷ (read "(rule (A x) y)" (lparen 0 ++ sym 1 4 ++ lparen 6 ++ sym 7 1 ++ sym 9 1 ++ rparen 10 ++ sym 12 1 ++ rparen 13) gives accepts 7 [] sheet)
     -- parameters x, y: B with MacroArg 1, x bound over C of MacroArg 1, MacroArg 0; with one pattern given, 5 at 2
     ∷ (isle-make-template text B xy 16 gives accepts 9 [] B-made)
