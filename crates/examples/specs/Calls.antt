@@ -26,7 +26,7 @@ pub record Answer : Type 0 where
 abbrev pub answer : ℕ → List ℕ → List ℕ → Answer
 answer r s o = record { number = r; store = s; output = o }
 
--- space for n records, as it is lent: not zeros
+-- space for n records as it is lent, with no zeros in it
 abbrev pub lent : ℕ → List ℕ
 lent n = replicate (n * 24) 255
 
@@ -58,7 +58,7 @@ pub data Said : Type 0 where
 unfoldable pub filled : ℕ → List ℕ → List ℕ
 filled n l = l ++ replicate (n * 24 - length l) 0
 
--- with space for s records in the store and for o in the output
+-- as an answer, with space for s records in the store and for o in the output
 unfoldable pub meant : Said → ℕ → ℕ → Answer
 meant (refusal at place) s o = answer (refused refusal place) (filled s []) (filled o [])
 meant (accepts count store output) s o = answer (accepted count) (filled s store) (filled o output)

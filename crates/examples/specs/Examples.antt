@@ -57,7 +57,7 @@ sheet =
     ++ rec 41 0 1 12 0 0 0
     ++ rec 24 0 0 12 12 1 0
 
--- ---- `(B y @ _ x @ (C y) x)`: the pattern, the parameters x, y, the template
+-- ---- `(B y @ _ x @ (C y) x)`: the pattern, the parameters x and y, the template
 
 unfoldable pub text : List ℕ
 text = bytes "(B y @ _ x @ (C y) x)"
