@@ -11,58 +11,59 @@ use Rattle.steps.specs.Outcome.{row, plain}
 use Rattle.exprs.specs.Expr.{constInt, parseLetdef, letInside, parseExprInnerParens, exprIn, parseExpr}
 use Rattle.grammar.specs.Grammar.{expression, letdef, list, Gram, e-integer, e-constant, e-true, e-false, e-var, e-let, e-term, l-def}
 use Rattle.grammar.specs.Depth.{deepest}
-use Rattle.grammar.proofs.Exact.{Exact, token, then, up, over, holds, fails, exact-iff, exact-refuseAt}
-use Rattle.grammar.proofs.Known.{Known, known, refuses, leaves, _⊳⊳_, _⊳·_, parents, nexts, seconds}
+use Rattle.grammar.specs.Nesting.{Nested, here, inward, in-letdef, in-let, in-expression}
+use Rattle.grammar.proofs.Exact.{Reach, Exact, deep, token, then, up, over, holds, fails, After, after, first, second, if-so, if-not, exact-iff, exact-to, exact-refuseAt}
+use Rattle.grammar.proofs.Known.{Inner, inner, known, refuses, leaves, quiet, _⊳⊳_, _⊳↓_, _⊳⇊_, _⊳·_, parents, nexts, nexts↓, seconds↓, bottom, Anywhere}
 use Rattle.grammar.proofs.Lexemes.{other, opens, symbols, integers, words, dollars, one-word, no-dollar-word, lparen, rparen, word, ident, constant}
 use Rattle.grammar.proofs.Laws.{least, deepest-⧺}
-use Rattle.grammar.proofs.Rows.{Read, Shut, exact-row}
+use Rattle.grammar.proofs.Rows.{Read, Shut, InRow, in-row, exact-row-in}
 
-pub deep : {s : Input} {i j : ℕ} {ts : Trees} → Gram s expression i j ts → 1 ≤ deepest ts
+level : {s : Input} {i j : ℕ} {ts : Trees} → Gram s expression i j ts → 1 ≤ deepest ts
 unfolding deepest
-deep (e-integer h) = omega arith
-deep (e-constant h) = omega arith
-deep (e-true h) = omega arith
-deep (e-false h) = omega arith
-deep (e-var h) = omega arith
-deep (e-let o w p ds c e q) = omega arith
-deep (e-term o h n ps c) = omega arith
+level (e-integer h) = omega arith
+level (e-constant h) = omega arith
+level (e-true h) = omega arith
+level (e-false h) = omega arith
+level (e-var h) = omega arith
+level (e-let o w p ds c e q) = omega arith
+level (e-term o h n ps c) = omega arith
 
-module _ (s : Input) (d : ℕ) (ih : Exact (parseExpr s d) (Read s expression d)) where
-  exprs : Exact (row s (parseExpr s d)) (Shut s (list expression) d)
+module _ (s : Input) (d : ℕ) (ih : Exact s (Nested s expression d) (parseExpr s d) (Read s expression d)) where
+  exprs : Exact s (InRow s expression (Nested s expression d)) (row s (parseExpr s d)) (Shut s (list expression) d)
   unfolding least
-  exprs = exact-row refl ih
+  exprs = exact-row-in refl ih
 
-  abbrev def-shape : Known (parseLetdef s (parseExpr s d))
+  abbrev def-shape : Inner s (parseLetdef s (parseExpr s d))
   unfolding parseLetdef
-  def-shape = parents s LetDef 0 (known (lparen s) ⊳⊳ known (ident s) ⊳⊳ known (ident s) ⊳⊳ known ih ⊳· rparen s)
+  def-shape = inner (parents s LetDef 0 (known (lparen s) ⊳⊳ known (ident s) ⊳⊳ known (ident s) ⊳↓ known ih ⊳· rparen s))
 
-  def-there : {i j : ℕ} {ts : Trees} → def-shape .Means i ts j → Read s letdef d i ts j
+  def-there : {i j : ℕ} {ts : Trees} → def-shape .reads .Means i ts j → Read s letdef d i ts j
   unfolding parseLetdef deepest _⧺_
   def-there (over (up (then (then (then (token o) (token h)) (token u)) r) c)) = record { derives = l-def o h u (r .derives) c; shallow = omega (arith, r .shallow) }
 
-  def-back : {i j : ℕ} {ts : Trees} → Gram s letdef i j ts → deepest ts ≤ d → def-shape .Means i ts j
+  def-back : {i j : ℕ} {ts : Trees} → Gram s letdef i j ts → deepest ts ≤ d → def-shape .reads .Means i ts j
   unfolding parseLetdef deepest _⧺_
   def-back (l-def o h u e c) m = over (up (then (then (then (token o) (token h)) (token u)) (record { derives = e; shallow = omega arith })) c)
 
-  defs : Exact (row s (parseLetdef s (parseExpr s d))) (Shut s (list letdef) d)
+  defs : Exact s (InRow s letdef (def-shape .Deep)) (row s (parseLetdef s (parseExpr s d))) (Shut s (list letdef) d)
   unfolding least
-  defs = exact-row refl (exact-iff (def-shape .exact) (λ i ts j r. def-there r) (λ i ts j r. def-back (r .derives) (r .shallow)))
+  defs = exact-row-in refl (exact-iff (def-shape .reads .exact) (λ i ts j r. def-there r) (λ i ts j r. def-back (r .derives) (r .shallow)))
 
-  abbrev shape : Known (exprIn s (parseExpr s d))
+  abbrev shape : Inner s (exprIn s (parseExpr s d))
   unfolding exprIn parseExprInnerParens letInside
   shape =
-      nexts (opens s)
-      (seconds (words s word-let)
-      (parents s Expr·Let 0 (known (lparen s) ⊳⊳ (known (word s word-let) ⊳· lparen s ⊳⊳ known defs ⊳· rparen s ⊳⊳ known ih ⊳· rparen s)))
-      (parents s Expr·Term 0 (known (lparen s) ⊳⊳ known (ident s) ⊳⊳ known exprs ⊳· rparen s)))
-      (nexts (dollars s) (parents s Expr·ConstPrim 0 (known (constant s)))
+      inner (nexts↓ (opens s)
+      (seconds↓ (words s word-let)
+      (parents s Expr·Let 0 (known (lparen s) ⊳↓ (known (word s word-let) ⊳· lparen s ⊳↓ known defs ⊳· rparen s ⊳⇊ known ih ⊳· rparen s)))
+      (parents s Expr·Term 0 (known (lparen s) ⊳⊳ known (ident s) ⊳↓ known exprs ⊳· rparen s)))
+      (quiet (nexts (dollars s) (parents s Expr·ConstPrim 0 (known (constant s)))
       (nexts (words s word-true) (leaves s (plain Expr·ConstBool 1))
       (nexts (words s word-false) (leaves s (plain Expr·ConstBool 0))
       (nexts (symbols s) (parents s Expr·Var 0 (known (ident s)))
       (nexts (integers s) (leaves s constInt)
-      (refuses s 26 (omega arith) (omega arith)))))))
+      (refuses s 26 (omega arith) (omega arith)))))))))
 
-  there : {i j : ℕ} {ts : Trees} → shape .Means i ts j → Read s expression (suc d) i ts j
+  there : {i j : ℕ} {ts : Trees} → shape .reads .Means i ts j → Read s expression (suc d) i ts j
   unfolding exprIn parseExprInnerParens letInside deepest _⧺_
   there (holds o (holds w (over (then (token p) (up (then {vs = e} (up (then {vs = ts} (up (token v) q) ds) c) r) z))))) =
       record { derives = e-let o v q (ds .derives) c (r .derives) z; shallow = omega (arith, deepest-⧺ ts e, r .shallow, ds .shallow) }
@@ -74,7 +75,7 @@ module _ (s : Input) (d : ℕ) (ih : Exact (parseExpr s d) (Read s expression d)
       record { derives = e-var (record { named = h; no-constant = b; no-true = c; no-false = e }); shallow = omega arith }
   there (fails a (fails b (fails c (fails e (fails f (holds h (token _))))))) = record { derives = e-integer h; shallow = omega arith }
 
-  back : {i j : ℕ} {ts : Trees} → Gram s expression i j ts → deepest ts ≤ suc d → shape .Means i ts j
+  back : {i j : ℕ} {ts : Trees} → Gram s expression i j ts → deepest ts ≤ suc d → shape .reads .Means i ts j
   unfolding exprIn parseExprInnerParens letInside deepest _⧺_ sameBytes
   back (e-integer h) m =
       fails (λ z. other z h refl) (fails (λ z. other (z .symbol) h refl) (fails (λ z. other (z .symbol) h refl) (fails (λ z. other (z .symbol) h refl) (fails (λ z. other z h refl) (holds h (token tt))))))
@@ -88,9 +89,19 @@ module _ (s : Input) (d : ℕ) (ih : Exact (parseExpr s d) (Read s expression d)
       holds o (holds w (over (then (token o) (up (then (up (then (up (token w) p) (record { derives = ds; shallow = omega arith; shuts = c })) c) (record { derives = e; shallow = omega arith })) q))))
   back (e-term o h n ps c) m = holds o (fails n (over (up (then (then (token o) (token h)) (record { derives = ps; shallow = omega arith; shuts = c })) c)))
 
-pub exact-expr : (s : Input) (d : ℕ) → Exact (parseExpr s d) (Read s expression d)
+  inside : {i k : ℕ} → shape .Deep i k → Nested s expression (suc d) i k
+  unfolding exprIn parseExprInnerParens letInside parseLetdef
+  inside (if-so o (if-so w (after (token p) (first (after (up (token v) q) (in-row ds z (after (then (then (token u) (token h)) (token y)) n))))))) = inward (in-letdef o v q ds u h y) n
+  inside (if-so o (if-so w (after (token p) (second (after (up (then (up (token v) q) ds) c) n))))) = inward (in-let o v q (ds .derives) c) n
+  inside (if-so o (if-not m (after (then (token p) (token h)) (in-row ps z n)))) = inward (in-expression o h m ps z) n
+
+pub exact-expr : (s : Input) (d : ℕ) → Exact s (Nested s expression d) (parseExpr s d) (Read s expression d)
 unfolding parseExpr
-exact-expr s zero = exact-iff (exact-refuseAt s 8 (omega arith) (omega arith)) (λ i ts j. elim [ ]) (λ i ts j r. absurd (omega (arith, deep (r .derives), r .shallow)))
+exact-expr s zero = exact-iff (exact-refuseAt s 8 (λ i. deep i here refl refl)) (λ i ts j. elim [ ]) (λ i ts j r. absurd (omega (arith, level (r .derives), r .shallow)))
 exact-expr s (suc d) =
     let ih = exact-expr s d in
-    exact-iff (shape s d ih .exact) (λ i ts j r. there s d ih r) (λ i ts j r. back s d ih (r .derives) (r .shallow))
+    exact-to (λ i k x. inside s d ih x) (exact-iff (shape s d ih .reads .exact) (λ i ts j r. there s d ih r) (λ i ts j r. back s d ih (r .derives) (r .shallow)))
+
+-- an expression of a definition
+pub whole-expr : (s : Input) → Exact s (Anywhere s) (parseExpr s 64) (Read s expression 64)
+whole-expr s = exact-to (λ i k x. bottom x) (exact-expr s 64)

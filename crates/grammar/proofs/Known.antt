@@ -1,52 +1,109 @@
 -- The combinators again, with the relation found by them: a reader, and what it is exact for. Assumes nothing.
 use Prim.Native.Nat.{ℕ, _+_, _≤_}
+use mathlib.Core.Path.{refl}
 use mathlib.Core.Bool.{Bool}
 use Rattle.trees.specs.Tree.{node, ∅, _▸_, head}
 use Rattle.trees.specs.declared.Head.{Head}
 use Rattle.tokens.specs.declared.Token.{Token}
 use Rattle.tokens.specs.Input.{Input, peek, posAt}
 use Rattle.steps.specs.Outcome.{Reader, _⊳_, parent, flagged, bare, leaf, nothing, refuseAt, refuseAfter, ifNext, ifSecond}
-use Rattle.grammar.proofs.Exact.{Rel, Exact, Judges, Never, Nothing, One, Any, Then, Up, Over, If, exact-refuseAt, exact-refuseAfter, exact-nothing, exact-leaf, exact-then, exact-up, exact-parent, exact-flagged, exact-bare, exact-next, exact-second}
+use Rattle.grammar.specs.Grammar.{Part}
+use Rattle.grammar.specs.Nesting.{Nested}
+use Rattle.grammar.proofs.Exact.{Rel, Reach, Exact, Judges, plain, Never, Nothing, One, Any, Then, Up, Over, If, Always, no-token, Nowhere, After, after, Either, first, second, Where, if-so, if-not, Among, in-item, past-item, exact-to, exact-refuseAt, exact-refuseAfter, exact-nothing, exact-leaf, exact-then, exact-up, exact-parent, exact-flagged, exact-bare, exact-next, exact-second}
 
-pub record Known (f : Reader) : Type 1 where
+pub record Known (s : Input) (D : Reach) (f : Reader) : Type 1 where
   pub Means : Rel
-  pub exact : Exact f Means
+  pub exact : Exact s D f Means
 
-abbrev pub known : {f : Reader} {R : Rel} → Exact f R → Known f
+abbrev pub known : {s : Input} {D : Reach} {f : Reader} {R : Rel} → Exact s D f R → Known s D f
 known {R = R} e = record { Means = R; exact = e }
 
-abbrev pub refuses : (s : Input) (code : ℕ) → 8 ≤ code → code ≤ 27 → Known (refuseAt s code)
-refuses s code l h = record { Means = Never; exact = exact-refuseAt s code l h }
+abbrev pub refuses : (s : Input) (code : ℕ) {D : Reach} → 10 ≤ code → code ≤ 27 → Known s D (refuseAt s code)
+refuses s code l h = record { Means = Never; exact = exact-refuseAt s code (λ i. plain i l h refl) }
 
-abbrev pub refusesAfter : (s : Input) (kind code : ℕ) → 8 ≤ code → code ≤ 27 → Known (refuseAfter s kind code)
+abbrev pub refusesAfter : (s : Input) (kind code : ℕ) {D : Reach} → 10 ≤ code → code ≤ 27 → Known s D (refuseAfter s kind code)
 refusesAfter s kind code l h = record { Means = Never; exact = exact-refuseAfter s kind code l h }
 
-abbrev pub nothings : Known nothing
+abbrev pub nothings : {s : Input} {D : Reach} → Known s D nothing
 nothings = record { Means = Nothing (λ _. ∅); exact = exact-nothing }
 
-abbrev pub leaves : (s : Input) (h : Token → Head) → Known (leaf s h)
+abbrev pub leaves : (s : Input) {D : Reach} (h : Token → Head) → Known s D (leaf s h)
 leaves s h = record { Means = One Any (λ i. node (h (peek s i)) ∅ ▸ ∅); exact = exact-leaf s h }
 
--- one part after another; a part and then a token
-infixl 50 _⊳⊳_
-abbrev pub _⊳⊳_ : {f g : Reader} → Known f → Known g → Known (f ⊳ g)
-r ⊳⊳ q = record { Means = Then (r .Means) (q .Means); exact = exact-then (r .exact) (q .exact) }
-
+-- a part and then a token
 infixl 50 _⊳·_
-abbrev pub _⊳·_ : {f g : Reader} {P : ℕ → Type 0} → Known f → Exact g (One P (λ _. ∅)) → Known (f ⊳ g)
+abbrev pub _⊳·_ : {s : Input} {D : Reach} {f g : Reader} {P : ℕ → Type 0} → Known s D f → Exact s Nowhere g (One P (λ _. ∅)) → Known s D (f ⊳ g)
 _⊳·_ {P = P} r q = record { Means = Up (r .Means) P; exact = exact-up (r .exact) q }
 
-abbrev pub parents : (s : Input) (kind flags : ℕ) {f : Reader} → Known f → Known (parent s kind flags f)
+abbrev pub parents : (s : Input) (kind flags : ℕ) {D : Reach} {f : Reader} → Known s D f → Known s D (parent s kind flags f)
 parents s kind flags r = record { Means = Over (λ i. head kind flags (posAt s i) 0 0) (r .Means); exact = exact-parent s kind flags (r .exact) }
 
-abbrev pub flags : (s : Input) (kind : ℕ) (by : ℕ → ℕ) {f : Reader} → Known f → Known (flagged s kind by f)
+abbrev pub flags : (s : Input) (kind : ℕ) (by : ℕ → ℕ) {D : Reach} {f : Reader} → Known s D f → Known s D (flagged s kind by f)
 flags s kind by r = record { Means = Over (λ i. head kind (by i) (posAt s i) 0 0) (r .Means); exact = exact-flagged s kind by (r .exact) }
 
-abbrev pub bares : (kind : ℕ) {f : Reader} → Known f → Known (bare kind f)
+abbrev pub bares : (kind : ℕ) {s : Input} {D : Reach} {f : Reader} → Known s D f → Known s D (bare kind f)
 bares kind r = record { Means = Over (λ i. head kind 0 0 0 0) (r .Means); exact = exact-bare kind (r .exact) }
 
-abbrev pub nexts : {s : Input} {test : Token → Bool} {f g : Reader} {P : ℕ → Type 0} → Judges s test P → Known f → Known g → Known (ifNext s test f g)
-nexts {s} {P = P} t r q = record { Means = If P (r .Means) (q .Means); exact = exact-next s t (r .exact) (q .exact) }
+-- ---- inside a pattern or an expression: where the depth is met goes by where the reader starts
 
-abbrev pub seconds : {s : Input} {test : Token → Bool} {f g : Reader} {P : ℕ → Type 0} → Judges s test P → Known f → Known g → Known (ifSecond s test f g)
-seconds {s} {P = P} t r q = record { Means = If (λ i. P (i + 1)) (r .Means) (q .Means); exact = exact-second s t (r .exact) (q .exact) }
+-- such a reader, and where it meets the depth
+pub record Inner (s : Input) (f : Reader) : Type 1 where
+  pub Deep : Reach
+  pub reads : Known s Deep f
+
+abbrev pub inner : {s : Input} {D : Reach} {f : Reader} → Known s D f → Inner s f
+inner {D = D} r = record { Deep = D; reads = r }
+
+-- one that does not meet it
+abbrev pub quiet : {s : Input} {f : Reader} → Known s Nowhere f → Known s Nowhere f
+quiet r = r
+
+pub in-second : {R : Rel} {E : Reach} {i k : ℕ} → Either Nowhere (After R E) i k → After R E i k
+in-second (first x) = absurd (no-token x)
+in-second (second y) = y
+
+-- one part after another, of which the second, or both, may meet the depth
+infixl 50 _⊳↓_
+abbrev pub _⊳↓_ : {s : Input} {E : Reach} {f g : Reader} (r : Known s Nowhere f) → Known s E g → Known s (After (r .Means) E) (f ⊳ g)
+r ⊳↓ q = record { Means = Then (r .Means) (q .Means); exact = exact-to (λ i k x. in-second x) (exact-then (r .exact) (q .exact)) }
+
+infixl 50 _⊳⇊_
+abbrev pub _⊳⇊_ : {s : Input} {D E : Reach} {f g : Reader} (r : Known s D f) → Known s E g → Known s (Either D (After (r .Means) E)) (f ⊳ g)
+r ⊳⇊ q = record { Means = Then (r .Means) (q .Means); exact = exact-then (r .exact) (q .exact) }
+
+abbrev pub nexts↓ : {s : Input} {D E : Reach} {test : Token → Bool} {f g : Reader} {P : ℕ → Type 0} → Judges s test P → Known s D f → Known s E g → Known s (Where P D E) (ifNext s test f g)
+nexts↓ {s} {P = P} t r q = record { Means = If P (r .Means) (q .Means); exact = exact-next s t (r .exact) (q .exact) }
+
+abbrev pub seconds↓ : {s : Input} {D E : Reach} {test : Token → Bool} {f g : Reader} {P : ℕ → Type 0} → Judges s test P → Known s D f → Known s E g → Known s (Where (λ i. P (i + 1)) D E) (ifSecond s test f g)
+seconds↓ {s} {P = P} t r q = record { Means = If (λ i. P (i + 1)) (r .Means) (q .Means); exact = exact-second s t (r .exact) (q .exact) }
+
+-- ---- around patterns and expressions, and in tokens: where the reader starts does not matter
+
+pub in-both : {C : ℕ → Type 0} {R : Rel} {i k : ℕ} → Either (Always C) (After R (Always C)) i k → C k
+in-both (first x) = x
+in-both (second (after r x)) = x
+
+pub in-one : {C P : ℕ → Type 0} {i k : ℕ} → Where P (Always C) (Always C) i k → C k
+in-one (if-so h x) = x
+in-one (if-not n x) = x
+
+pub in-some : {C P : ℕ → Type 0} {R : ℕ → Rel} {c i k : ℕ} → Among P R (Always C) c i k → C k
+in-some (in-item n x) = x
+in-some (past-item r y) = in-some y
+
+infixl 50 _⊳⊳_
+abbrev pub _⊳⊳_ : {s : Input} {C : ℕ → Type 0} {f g : Reader} → Known s (Always C) f → Known s (Always C) g → Known s (Always C) (f ⊳ g)
+r ⊳⊳ q = record { Means = Then (r .Means) (q .Means); exact = exact-to (λ i k x. in-both x) (exact-then (r .exact) (q .exact)) }
+
+abbrev pub nexts : {s : Input} {C : ℕ → Type 0} {test : Token → Bool} {f g : Reader} {P : ℕ → Type 0} → Judges s test P → Known s (Always C) f → Known s (Always C) g → Known s (Always C) (ifNext s test f g)
+nexts {s} {P = P} t r q = record { Means = If P (r .Means) (q .Means); exact = exact-to (λ i k x. in-one x) (exact-next s t (r .exact) (q .exact)) }
+
+abbrev pub seconds : {s : Input} {C : ℕ → Type 0} {test : Token → Bool} {f g : Reader} {P : ℕ → Type 0} → Judges s test P → Known s (Always C) f → Known s (Always C) g → Known s (Always C) (ifSecond s test f g)
+seconds {s} {P = P} t r q = record { Means = If (λ i. P (i + 1)) (r .Means) (q .Means); exact = exact-to (λ i k x. in-one x) (exact-second s t (r .exact) (q .exact)) }
+
+-- around patterns and expressions the depth is met where one of depth 65 begins
+pub data Bottom (s : Input) (k : ℕ) : Type 0 where
+  bottom : {x : Part} {i : ℕ} → Nested s x 64 i k → Bottom s k
+
+abbrev pub Anywhere : Input → Reach
+Anywhere s = Always (Bottom s)

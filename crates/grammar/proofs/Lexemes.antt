@@ -19,7 +19,7 @@ use Rattle.tokens.proofs.TokenLaws.{kind-inside}
 use Rattle.steps.specs.declared.Refusal.{Refusal}
 use Rattle.steps.specs.Outcome.{accept, refuse, refusal, unexpected, expect-lparen, expect-rparen, expect-at, expect-word, identAt, nameBy, parseIdent, constRefusal, parseConst, refusedAs}
 use Rattle.grammar.specs.Lexical.{Kind, Open, Close, Symbol, Integer, At, Word, spelling, Identifier, identifier, Name, Dollar, Constant, one, nameAt, constantAt}
-use Rattle.grammar.proofs.Exact.{Exact, Tests, Judges, One, token, exact-expect, clash, same, Ground, no-refusal, same-ground, unexpected-ground}
+use Rattle.grammar.proofs.Exact.{Reach, Exact, Tests, Judges, One, token, exact-expect, clash, same, Ground, plain, no-refusal, same-ground, unexpected-ground}
 
 -- the token is there
 pub there : {s : Input} {k i : ℕ} → Kind s k i → 0 < k → i < size s
@@ -89,16 +89,16 @@ no-dollar-word {s} {i} {c} {w} a b = sym (ap (λ (l : List ℕ). getD l 0 0) (a 
 -- ---- tokens that are expected
 
 module _ (s : Input) where
-  pub lparen : Exact (expect-lparen s) (One (Open s) (λ _. ∅))
+  pub lparen : {D : Reach} → Exact s D (expect-lparen s) (One (Open s) (λ _. ∅))
   lparen = exact-expect s (opens s)
 
-  pub rparen : Exact (expect-rparen s) (One (Close s) (λ _. ∅))
+  pub rparen : {D : Reach} → Exact s D (expect-rparen s) (One (Close s) (λ _. ∅))
   rparen = exact-expect s (closes s)
 
-  pub at-sign : Exact (expect-at s) (One (At s) (λ _. ∅))
+  pub at-sign : {D : Reach} → Exact s D (expect-at s) (One (At s) (λ _. ∅))
   at-sign = exact-expect s (ats s)
 
-  pub word : (w : List ℕ) → Exact (expect-word s w) (One (Word s w) (λ _. ∅))
+  pub word : (w : List ℕ) {D : Reach} → Exact s D (expect-word s w) (One (Word s w) (λ _. ∅))
   word w = exact-expect s (words s w)
 
 -- ---- names
@@ -108,7 +108,7 @@ pub record Names (s : Input) (judge : List ℕ → ℕ) (P : ℕ → Type 0) : T
   pub yes : (i : ℕ) → Symbol s i → judge (spelling s i) ≡ 0 → P i
   pub symbol : (i : ℕ) → P i → Symbol s i
   pub obeys : (i : ℕ) → P i → judge (spelling s i) ≡ 0
-  pub ground : (b : List ℕ) → (judge b ≡ 0 → ⊥) → (8 ≤ judge b) × (judge b ≤ 27)
+  pub ground : (b : List ℕ) → (judge b ≡ 0 → ⊥) → (10 ≤ judge b) × (judge b ≤ 27)
 
 module _ {s : Input} {judge : List ℕ → ℕ} {P : ℕ → Type 0} (range : ℕ → ℕ) (n : Names s judge P) where
   abbrev Tree-at : ℕ → Trees
@@ -125,16 +125,16 @@ module _ {s : Input} {judge : List ℕ → ℕ} {P : ℕ → Type 0} (range : �
   met i true p e = judged i (judge (spelling s i)) refl (symbols s .at i .yes p) (eqb (judge (spelling s i)) 0) refl e
   met i false p e = absurd (clash e)
 
-  judged-ground : (i c : ℕ) {e : Refusal} → ((c ≡ 0 → ⊥) → (8 ≤ c) × (c ≤ 27)) → (b : Bool) → eqb c 0 ≡ b
-      → pick b (accept (Tree-at i) (i + 1)) (refuse (refusal c (posAt s i) (i + 1))) ≡ refuse e → Ground e
+  judged-ground : {D : ℕ → Type 0} (i c : ℕ) {e : Refusal} → ((c ≡ 0 → ⊥) → (10 ≤ c) × (c ≤ 27)) → (b : Bool) → eqb c 0 ≡ b
+      → pick b (accept (Tree-at i) (i + 1)) (refuse (refusal c (posAt s i) (i + 1))) ≡ refuse e → Ground s D e
   judged-ground i c g true q z = absurd (no-refusal z)
-  judged-ground i c g false q z = let l = g (eqb-false c 0 q) in same-ground z (record { low = l .0; high = l .1 })
+  judged-ground i c g false q z = let l = g (eqb-false c 0 q) in same-ground z (plain i (l .0) (l .1) refl)
 
-  met-ground : (i : ℕ) {e : Refusal} (b : Bool)
-      → choose b (λ _. identAt (peek s i .pos) (range (peek s i .word1)) (judge (spelling s i)) i) (λ _. refuse (unexpected (peek s i) i)) ≡ refuse e → Ground e
+  met-ground : {D : ℕ → Type 0} (i : ℕ) {e : Refusal} (b : Bool)
+      → choose b (λ _. identAt (peek s i .pos) (range (peek s i .word1)) (judge (spelling s i)) i) (λ _. refuse (unexpected (peek s i) i)) ≡ refuse e → Ground s D e
   unfolding identAt
   met-ground i true z = judged-ground i (judge (spelling s i)) (n .ground (spelling s i)) (eqb (judge (spelling s i)) 0) refl z
-  met-ground i false z = same-ground z (unexpected-ground (peek s i) i)
+  met-ground i false z = same-ground z (unexpected-ground s i)
 
   symbol-true : (i : ℕ) → Symbol s i → isSymbol (peek s i) ≡ true
   unfolding isSymbol
@@ -144,7 +144,7 @@ module _ {s : Input} {judge : List ℕ → ℕ} {P : ℕ → Type 0} (range : �
   unfolding nameBy identAt
   back i (token h) = rw (symbol-true i (n .symbol i h), n .obeys i h)
 
-  pub exact-name : Exact (nameBy s judge range) (One P Tree-at)
+  pub exact-name : {D : Reach} → Exact s D (nameBy s judge range) (One P Tree-at)
   unfolding nameBy
   exact-name = record { sound = λ i e. met i (isSymbol (peek s i)) refl e; complete = λ i x. back i x; ground = λ i e z. met-ground i (isSymbol (peek s i)) z }
 
@@ -174,21 +174,21 @@ ident-ground (c ∷ cs) n = go (starts c) (allGoOn cs) n
     go false u n = (omega arith, omega arith)
 
 -- a number that stands for another ground where there is none
-pub either-ground : (b : List ℕ) (x y : ℕ) → ((x ≡ 0 → ⊥) → (8 ≤ x) × (x ≤ 27)) → ((identRefusal b ≡ 0 → ⊥) → (8 ≤ y) × (y ≤ 27)) → (pick (eqb (identRefusal b) 0) x y ≡ 0 → ⊥)
-    → (8 ≤ pick (eqb (identRefusal b) 0) x y) × (pick (eqb (identRefusal b) 0) x y ≤ 27)
+pub either-ground : (b : List ℕ) (x y : ℕ) → ((x ≡ 0 → ⊥) → (10 ≤ x) × (x ≤ 27)) → ((identRefusal b ≡ 0 → ⊥) → (10 ≤ y) × (y ≤ 27)) → (pick (eqb (identRefusal b) 0) x y ≡ 0 → ⊥)
+    → (10 ≤ pick (eqb (identRefusal b) 0) x y) × (pick (eqb (identRefusal b) 0) x y ≤ 27)
 either-ground b x y f g n = go (eqb (identRefusal b) 0) refl n
   where
-    go : (t : Bool) → eqb (identRefusal b) 0 ≡ t → (pick t x y ≡ 0 → ⊥) → (8 ≤ pick t x y) × (pick t x y ≤ 27)
+    go : (t : Bool) → eqb (identRefusal b) 0 ≡ t → (pick t x y ≡ 0 → ⊥) → (10 ≤ pick t x y) × (pick t x y ≤ 27)
     go true p n = f n
     go false p n = g (eqb-false _ 0 p)
 
-pub ident-within : (b : List ℕ) → (identRefusal b ≡ 0 → ⊥) → (8 ≤ identRefusal b) × (identRefusal b ≤ 27)
+pub ident-within : (b : List ℕ) → (identRefusal b ≡ 0 → ⊥) → (10 ≤ identRefusal b) × (identRefusal b ≤ 27)
 ident-within b n = let l = ident-ground b n in (omega (arith, l .0), omega (arith, l .1))
 
 ident-names : (s : Input) → Names s identRefusal (Name s)
 ident-names s = record { yes = λ i k e. record { symbol = k; obeys = rule-sound (spelling s i) e }; symbol = λ i h. h .symbol; obeys = λ i h. rule-complete (h .obeys); ground = ident-within }
 
-pub ident : (s : Input) → Exact (parseIdent s) (One (Name s) (λ i. one (nameAt s i)))
+pub ident : (s : Input) {D : Reach} → Exact s D (parseIdent s) (One (Name s) (λ i. one (nameAt s i)))
 unfolding parseIdent
 ident s = exact-name (λ w. w) (ident-names s)
 
@@ -201,7 +201,7 @@ const-zero b e = go (eqb (identRefusal b) 0) (eqb (getD b 0 0) 36) refl refl e
     go true false p q h = absurd (omega arith)
     go false u p q h = absurd (eqb-false _ 0 p h)
 
-sixteen : (u : Bool) → (_≡_ {A = ℕ} (pick u 0 16) 0 → ⊥) → (8 ≤ pick u 0 16) × (pick u 0 16 ≤ 27)
+sixteen : (u : Bool) → (_≡_ {A = ℕ} (pick u 0 16) 0 → ⊥) → (10 ≤ pick u 0 16) × (pick u 0 16 ≤ 27)
 sixteen true n = absurd (n refl)
 sixteen false n = (omega arith, omega arith)
 
@@ -215,7 +215,7 @@ const-names s =
       ground = λ b n. either-ground b (pick (eqb (getD b 0 0) 36) 0 16) (identRefusal b) (sixteen (eqb (getD b 0 0) 36)) (ident-within b) n;
     }
 
-pub constant : (s : Input) → Exact (parseConst s) (One (Constant s) (λ i. one (constantAt s i)))
+pub constant : (s : Input) {D : Reach} → Exact s D (parseConst s) (One (Constant s) (λ i. one (constantAt s i)))
 unfolding parseConst
 constant s = exact-name (λ w. w + 4294967295) (const-names s)
 
@@ -231,5 +231,5 @@ rule-names : (s : Input) → Names s (refusedAs 23) (Name s)
 unfolding refusedAs
 rule-names s = record { yes = λ i k e. record { symbol = k; obeys = rule-sound (spelling s i) (refused-zero (spelling s i) e) }; symbol = λ i h. h .symbol; obeys = λ i h. rw (rule-complete (h .obeys)); ground = λ b n. either-ground b 0 23 (λ z. absurd (z refl)) (λ z. (omega arith, omega arith)) n }
 
-pub rule-ident : (s : Input) → Exact (nameBy s (refusedAs 23) (λ w. w)) (One (Name s) (λ i. one (nameAt s i)))
+pub rule-ident : (s : Input) {D : Reach} → Exact s D (nameBy s (refusedAs 23) (λ w. w)) (One (Name s) (λ i. one (nameAt s i)))
 rule-ident s = exact-name (λ w. w) (rule-names s)

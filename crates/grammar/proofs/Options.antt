@@ -16,7 +16,7 @@ use Rattle.steps.specs.Outcome.{accept, refuse, refusal, ate, eat}
 use Rattle.parser.specs.Types.{modifierFlags, modifiersEnd, parseModifiers}
 use Rattle.grammar.specs.Lexical.{Symbol, Word}
 use Rattle.grammar.specs.Grammar.{Optional, given, left, Modifiers, no-more, an-extern, a-nodebug}
-use Rattle.grammar.proofs.Exact.{Exact, Judges, clash, same, Ground, no-refusal, same-ground}
+use Rattle.grammar.proofs.Exact.{Reach, Exact, Judges, clash, same, Ground, plain, no-refusal, same-ground}
 use Rattle.grammar.proofs.Lexemes.{there, words, symbols, one-word}
 
 -- what a test is, where it is known whether P holds
@@ -60,7 +60,7 @@ flag-is {f = f} {i = i} (left n) = let e : i - i ≡ 0 = omega arith in rw e (om
 pub data Eats (s : Input) (w : List ℕ) (i : ℕ) : Trees → ℕ → Type 0 where
   eats : {a p : ℕ} → Optional s w 1 i a p → Eats s w i ∅ a
 
-pub exact-eat : (s : Input) (w : List ℕ) → Exact (eat s w) (Eats s w)
+pub exact-eat : (s : Input) (w : List ℕ) {D : Reach} → Exact s D (eat s w) (Eats s w)
 unfolding eat
 exact-eat s w = record { sound = λ i e. same (Eats s w i) e (eats (optional-at s w 1 i .optional)); complete = λ i r. back i r; ground = λ i e z. absurd (no-refusal z) }
   where
@@ -122,13 +122,13 @@ type-flags {s} m z = omega (arith, flags-at (size s) 0 0 (omega arith) (omega ar
 pub data Passed (s : Input) (i : ℕ) : Trees → ℕ → Type 0 where
   passed : {j e n : ℕ} → Modifiers s i j e n → (Symbol s j → ⊥) → Passed s i ∅ j
 
-pub exact-modifiers : (s : Input) → Exact (parseModifiers s) (Passed s)
+pub exact-modifiers : (s : Input) {D : Reach} → Exact s D (parseModifiers s) (Passed s)
 unfolding parseModifiers
-exact-modifiers s = record { sound = λ i e. go i (isSymbol (peek s (modifiersEnd s (size s) i))) refl e; complete = λ i r. back i r; ground = λ i e z. why i (isSymbol (peek s (modifiersEnd s (size s) i))) z }
+exact-modifiers s {D} = record { sound = λ i e. go i (isSymbol (peek s (modifiersEnd s (size s) i))) refl e; complete = λ i r. back i r; ground = λ i e z. why i (isSymbol (peek s (modifiersEnd s (size s) i))) z }
   where
     why : (i : ℕ) {e : Refusal} (b : Bool)
-        → choose b (λ _. refuse (refusal 18 (posAt s (modifiersEnd s (size s) i + 1)) (modifiersEnd s (size s) i + 1))) (λ _. accept ∅ (modifiersEnd s (size s) i)) ≡ refuse e → Ground e
-    why i true z = same-ground z (record { low = omega arith; high = omega arith })
+        → choose b (λ _. refuse (refusal 18 (posAt s (modifiersEnd s (size s) i + 1)) (modifiersEnd s (size s) i + 1))) (λ _. accept ∅ (modifiersEnd s (size s) i)) ≡ refuse e → Ground s (D i) e
+    why i true z = same-ground z (plain (modifiersEnd s (size s) i + 1) (omega arith) (omega arith) refl)
     why i false z = absurd (no-refusal z)
 
     go : (i : ℕ) {ts : Trees} {j : ℕ} (b : Bool) → isSymbol (peek s (modifiersEnd s (size s) i)) ≡ b

@@ -15,11 +15,12 @@ use Rattle.patterns.specs.Pattern.{constInt, compound, patternIn, parsePattern}
 use Rattle.grammar.specs.Lexical.{At}
 use Rattle.grammar.specs.Grammar.{pattern, list, Gram, p-integer, p-constant, p-wildcard, p-true, p-false, p-var, p-bind, p-and, p-term}
 use Rattle.grammar.specs.Depth.{deepest}
-use Rattle.grammar.proofs.Exact.{Exact, token, then, up, over, holds, fails, exact-iff, exact-refuseAt}
-use Rattle.grammar.proofs.Known.{Known, known, refuses, leaves, _⊳⊳_, _⊳·_, parents, nexts, seconds}
+use Rattle.grammar.specs.Nesting.{Nested, here, inward, in-bind, in-and, in-pattern}
+use Rattle.grammar.proofs.Exact.{Exact, deep, token, then, up, over, holds, fails, after, if-so, if-not, exact-iff, exact-to, exact-refuseAt}
+use Rattle.grammar.proofs.Known.{Inner, inner, known, refuses, leaves, quiet, _⊳⊳_, _⊳↓_, _⊳·_, parents, nexts↓, seconds↓, bottom, Anywhere}
 use Rattle.grammar.proofs.Lexemes.{other, opens, symbols, integers, ats, words, dollars, one-word, no-dollar-word, lparen, rparen, at-sign, word, ident, constant}
 use Rattle.grammar.proofs.Laws.{least}
-use Rattle.grammar.proofs.Rows.{Shut, exact-row-of}
+use Rattle.grammar.proofs.Rows.{Shut, InRow, in-row, exact-row-of}
 
 -- whether a pattern is a name, or a name bound over a pattern that ends in one
 unfoldable mutual
@@ -42,44 +43,44 @@ last-open : {b : Bool} → pick b true false ≡ true → b ≡ true
 last-open {b = true} e = refl
 last-open {b = false} e = e
 
-deep : {s : Input} {i j : ℕ} {ts : Trees} → Gram s pattern i j ts → 1 ≤ deepest ts
+level : {s : Input} {i j : ℕ} {ts : Trees} → Gram s pattern i j ts → 1 ≤ deepest ts
 unfolding deepest
-deep (p-integer h) = omega arith
-deep (p-constant h) = omega arith
-deep (p-wildcard h) = omega arith
-deep (p-true h) = omega arith
-deep (p-false h) = omega arith
-deep (p-var h) = omega arith
-deep (p-bind h a p) = omega arith
-deep (p-and o w ps c) = omega arith
-deep (p-term o h n ps c) = omega arith
+level (p-integer h) = omega arith
+level (p-constant h) = omega arith
+level (p-wildcard h) = omega arith
+level (p-true h) = omega arith
+level (p-false h) = omega arith
+level (p-var h) = omega arith
+level (p-bind h a p) = omega arith
+level (p-and o w ps c) = omega arith
+level (p-term o h n ps c) = omega arith
 
-module _ (s : Input) (d : ℕ) (ih : Exact (parsePattern s d) (Stopped s d)) where
-  patterns : Exact (row s (parsePattern s d)) (Shut s (list pattern) d)
+module _ (s : Input) (d : ℕ) (ih : Exact s (Nested s pattern d) (parsePattern s d) (Stopped s d)) where
+  patterns : Exact s (InRow s pattern (Nested s pattern d)) (row s (parsePattern s d)) (Shut s (list pattern) d)
   unfolding least
   patterns =
       exact-row-of refl (λ i ts j r. record { derives = r .derives; shallow = r .shallow })
       (λ i ts j r n. record { derives = r .derives; shallow = r .shallow; stops = λ _. n }) ih
 
-  abbrev shape : Known (patternIn s (parsePattern s d))
+  abbrev shape : Inner s (patternIn s (parsePattern s d))
   unfolding patternIn compound
   shape =
-      nexts (integers s) (leaves s constInt)
-      (nexts (dollars s) (parents s Pattern·ConstPrim 0 (known (constant s)))
-      (nexts (words s word-wildcard) (leaves s (plain Pattern·Wildcard 0))
-      (nexts (words s word-true) (leaves s (plain Pattern·ConstBool 1))
-      (nexts (words s word-false) (leaves s (plain Pattern·ConstBool 0))
-      (nexts (symbols s)
-      (seconds (ats s)
-      (parents s Pattern·Bind 0 (known (ident s) ⊳· at-sign s ⊳⊳ known ih))
-      (parents s Pattern·Var 0 (known (ident s))))
-      (nexts (opens s)
-      (seconds (words s word-and)
-      (parents s Pattern·And 0 (known (lparen s) ⊳· word s word-and ⊳⊳ known patterns ⊳· rparen s))
-      (parents s Pattern·Term 0 (known (lparen s) ⊳⊳ known (ident s) ⊳⊳ known patterns ⊳· rparen s)))
-      (refuses s 25 (omega arith) (omega arith))))))))
+      inner (nexts↓ (integers s) (quiet (leaves s constInt))
+      (nexts↓ (dollars s) (parents s Pattern·ConstPrim 0 (quiet (known (constant s))))
+      (nexts↓ (words s word-wildcard) (quiet (leaves s (plain Pattern·Wildcard 0)))
+      (nexts↓ (words s word-true) (quiet (leaves s (plain Pattern·ConstBool 1)))
+      (nexts↓ (words s word-false) (quiet (leaves s (plain Pattern·ConstBool 0)))
+      (nexts↓ (symbols s)
+      (seconds↓ (ats s)
+      (parents s Pattern·Bind 0 (known (ident s) ⊳· at-sign s ⊳↓ known ih))
+      (parents s Pattern·Var 0 (quiet (known (ident s)))))
+      (nexts↓ (opens s)
+      (seconds↓ (words s word-and)
+      (parents s Pattern·And 0 (known (lparen s) ⊳· word s word-and ⊳↓ known patterns ⊳· rparen s))
+      (parents s Pattern·Term 0 (known (lparen s) ⊳⊳ known (ident s) ⊳↓ known patterns ⊳· rparen s)))
+      (quiet (refuses s 25 (omega arith) (omega arith))))))))))
 
-  there : {i j : ℕ} {ts : Trees} → shape .Means i ts j → Stopped s (suc d) i ts j
+  there : {i j : ℕ} {ts : Trees} → shape .reads .Means i ts j → Stopped s (suc d) i ts j
   unfolding patternIn compound deepest oneEnds _⧺_
   there (holds h (token _)) = record { derives = p-integer h; shallow = omega arith; stops = shut }
   there (fails a (holds k (over (token h)))) = record { derives = p-constant h; shallow = omega arith; stops = shut }
@@ -99,7 +100,7 @@ module _ (s : Input) (d : ℕ) (ih : Exact (parsePattern s d) (Stopped s d)) whe
   there (fails a (fails b (fails c (fails e (fails f (fails g (holds k (fails n (over (up (then (then (token o) (token h)) r) z)))))))))) =
       record { derives = p-term o h n (r .derives) z; shallow = omega (arith, r .shallow); stops = shut }
 
-  back : {i j : ℕ} {ts : Trees} → Gram s pattern i j ts → deepest ts ≤ suc d → (oneEnds ts ≡ true → At s j → ⊥) → shape .Means i ts j
+  back : {i j : ℕ} {ts : Trees} → Gram s pattern i j ts → deepest ts ≤ suc d → (oneEnds ts ≡ true → At s j → ⊥) → shape .reads .Means i ts j
   unfolding patternIn compound deepest oneEnds _⧺_ sameBytes
   back (p-integer h) m e = holds h (token tt)
   back (p-constant h) m e = fails (λ z. other z (h .dollar .symbol) refl) (holds (h .dollar) (over (token h)))
@@ -122,9 +123,20 @@ module _ (s : Input) (d : ℕ) (ih : Exact (parsePattern s d) (Stopped s d)) whe
       fails (λ z. other o z refl) (fails (λ z. other o (z .symbol) refl) (fails (λ z. other o (z .symbol) refl) (fails (λ z. other o (z .symbol) refl) (fails (λ z. other o (z .symbol) refl)
       (fails (λ z. other o z refl) (holds o (fails n (over (up (then (then (token o) (token h)) (record { derives = ps; shallow = omega arith; shuts = c })) c)))))))))
 
-pub exact-pattern : (s : Input) (d : ℕ) → Exact (parsePattern s d) (Stopped s d)
+  inside : {i k : ℕ} → shape .Deep i k → Nested s pattern (suc d) i k
+  unfolding patternIn compound
+  inside (if-not a (if-not b (if-not c (if-not e (if-not f (if-so k (if-so t (after (up (token h) u) n)))))))) =
+      inward (in-bind (record { variable = record { named = h; no-constant = b; no-true = e; no-false = f }; no-wildcard = c }) u) n
+  inside (if-not a (if-not b (if-not c (if-not e (if-not f (if-not g (if-so k (if-so t (after (up (token o) w) (in-row ps z n)))))))))) = inward (in-and o w ps z) n
+  inside (if-not a (if-not b (if-not c (if-not e (if-not f (if-not g (if-so k (if-not m (after (then (token o) (token h)) (in-row ps z n)))))))))) = inward (in-pattern o h m ps z) n
+
+pub exact-pattern : (s : Input) (d : ℕ) → Exact s (Nested s pattern d) (parsePattern s d) (Stopped s d)
 unfolding parsePattern
-exact-pattern s zero = exact-iff (exact-refuseAt s 8 (omega arith) (omega arith)) (λ i ts j. elim [ ]) (λ i ts j r. absurd (omega (arith, deep (r .derives), r .shallow)))
+exact-pattern s zero = exact-iff (exact-refuseAt s 8 (λ i. deep i here refl refl)) (λ i ts j. elim [ ]) (λ i ts j r. absurd (omega (arith, level (r .derives), r .shallow)))
 exact-pattern s (suc d) =
     let ih = exact-pattern s d in
-    exact-iff (shape s d ih .exact) (λ i ts j r. there s d ih r) (λ i ts j r. back s d ih (r .derives) (r .shallow) (r .stops))
+    exact-to (λ i k x. inside s d ih x) (exact-iff (shape s d ih .reads .exact) (λ i ts j r. there s d ih r) (λ i ts j r. back s d ih (r .derives) (r .shallow) (r .stops)))
+
+-- a pattern of a definition
+pub whole-pattern : (s : Input) → Exact s (Anywhere s) (parsePattern s 64) (Stopped s 64)
+whole-pattern s = exact-to (λ i k x. bottom x) (exact-pattern s 64)

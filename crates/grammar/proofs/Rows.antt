@@ -8,7 +8,8 @@ use Rattle.steps.specs.Outcome.{Reader, row}
 use Rattle.grammar.specs.Lexical.{Close, At}
 use Rattle.grammar.specs.Grammar.{Part, list, Gram, empty, cons}
 use Rattle.grammar.specs.Depth.{deepest}
-use Rattle.grammar.proofs.Exact.{Rel, Exact, exact-iff, Many, done, next, exact-many}
+use Rattle.grammar.proofs.Exact.{Rel, Reach, Exact, exact-iff, exact-to, Many, done, next, Among, in-item, past-item, exact-many}
+use Rattle.grammar.proofs.Known.{Bottom, Anywhere}
 use Rattle.grammar.proofs.Lexemes.{closes}
 use Rattle.grammar.proofs.Laws.{least, deepest-⧺, begins, no-close, no-at, begun-there, fit}
 
@@ -22,6 +23,10 @@ pub record Shut (s : Input) (x : Part) (d i : ℕ) (ts : Trees) (j : ℕ) : Type
   pub shallow : deepest ts ≤ d
   pub shuts : Close s j
 
+-- where the depth is met in an item, after finished ones
+pub data InRow (s : Input) (x : Part) (D : Reach) (i k : ℕ) : Type 0 where
+  in-row : {j : ℕ} {ts : Trees} → Gram s (list x) i j ts → (Close s j → ⊥) → D j k → InRow s x D i k
+
 -- an item takes a token that is there
 pub item-on : {s : Input} {x : Part} {i j : ℕ} {ts : Trees} → least x ≡ 1 → Gram s x i j ts → (i < j) × (i < size s)
 item-on e p = (omega (arith, fit p .on), begun-there (begins p e))
@@ -32,8 +37,8 @@ row-at e empty c a = omega (arith, c .is, a .is)
 row-at e (cons p ps) c a = no-at (begins p e) a
 
 -- EVERY ROW up to a `)`: items that are exact for R, which is Read and what a token that is no `@` adds to it
-module _ {s : Input} {x : Part} {d : ℕ} {R : Rel} {sub : Reader} (step : least x ≡ 1) (to : (i : ℕ) (ts : Trees) (j : ℕ) → R i ts j → Read s x d i ts j)
-    (from : (i : ℕ) (ts : Trees) (j : ℕ) → Read s x d i ts j → (At s j → ⊥) → R i ts j) (exact : Exact sub R) where
+module _ {s : Input} {x : Part} {D : Reach} {d : ℕ} {R : Rel} {sub : Reader} (step : least x ≡ 1) (to : (i : ℕ) (ts : Trees) (j : ℕ) → R i ts j → Read s x d i ts j)
+    (from : (i : ℕ) (ts : Trees) (j : ℕ) → Read s x d i ts j → (At s j → ⊥) → R i ts j) (exact : Exact s D sub R) where
   row-there : {k i j : ℕ} {ts : Trees} → Many (Close s) (λ _. R) k i ts j → Shut s (list x) d i ts j
   unfolding deepest
   row-there (done c) = record { derives = empty; shallow = omega arith; shuts = c }
@@ -46,10 +51,23 @@ module _ {s : Input} {x : Part} {d : ℕ} {R : Rel} {sub : Reader} (step : least
       let z = deepest-⧺ t ts in
       next (no-close (begins p step)) (from _ _ _ (record { derives = p; shallow = omega arith }) (row-at step ps c)) (row-back (k + count t) ps (omega arith) c)
 
-  pub exact-row-of : Exact (row s sub) (Shut s (list x) d)
+  past : {i j k : ℕ} {ts : Trees} → Gram s x i j ts → InRow s x D j k → InRow s x D i k
+  past p (in-row ps n y) = in-row (cons p ps) n y
+
+  row-deep : {c i k : ℕ} → Among (Close s) (λ _. R) D c i k → InRow s x D i k
+  row-deep (in-item n y) = in-row empty n y
+  row-deep (past-item r y) = past (to _ _ _ r .derives) (row-deep y)
+
+  pub exact-row-of : Exact s (InRow s x D) (row s sub) (Shut s (list x) d)
   exact-row-of =
-      exact-iff (exact-many (size s) (closes s .at) exact (λ i ts j r. item-on step (to i ts j r .derives)))
+      exact-iff (exact-to (λ i k y. row-deep y) (exact-many (size s) (closes s .at) exact (λ i ts j r. item-on step (to i ts j r .derives))))
       (λ i ts j r. row-there r) (λ i ts j r. row-back 0 (r .derives) (r .shallow) (r .shuts))
 
-pub exact-row : {s : Input} {x : Part} {d : ℕ} {sub : Reader} → least x ≡ 1 → Exact sub (Read s x d) → Exact (row s sub) (Shut s (list x) d)
-exact-row step exact = exact-row-of step (λ i ts j r. r) (λ i ts j r n. r) exact
+pub exact-row-in : {s : Input} {x : Part} {D : Reach} {d : ℕ} {sub : Reader} → least x ≡ 1 → Exact s D sub (Read s x d) → Exact s (InRow s x D) (row s sub) (Shut s (list x) d)
+exact-row-in step exact = exact-row-of step (λ i ts j r. r) (λ i ts j r n. r) exact
+
+in-rows : {s : Input} {x : Part} {i k : ℕ} → InRow s x (Anywhere s) i k → Bottom s k
+in-rows (in-row ps n y) = y
+
+pub exact-row : {s : Input} {x : Part} {d : ℕ} {sub : Reader} → least x ≡ 1 → Exact s (Anywhere s) sub (Read s x d) → Exact s (Anywhere s) (row s sub) (Shut s (list x) d)
+exact-row step exact = exact-to (λ i k y. in-rows y) (exact-row-in step exact)

@@ -20,13 +20,13 @@ use Rattle.parser.specs.Defs.{ruleName, isI64, rulePriority, ruleFlags, rulePar
 use Rattle.grammar.specs.Lexical.{Open, At, Word, Short, not-negative, negative, Iffy, iffy-let, iffy}
 use Rattle.grammar.specs.Grammar.{RuleName, named, unnamed, RulePriority, ranked, unranked, rule, iflet, expression, list, Gram, empty, cons, i-let, i-if, r-rule}
 use Rattle.grammar.specs.Depth.{deepest}
-use Rattle.grammar.proofs.Exact.{Exact, Tests, none, token, then, up, over, holds, fails, Many, done, next, exact-iff, exact-many, clash, same, Ground, no-refusal, same-ground}
-use Rattle.grammar.proofs.Known.{Known, known, nothings, _⊳⊳_, _⊳·_, parents, flags, nexts, seconds}
+use Rattle.grammar.proofs.Exact.{Exact, Tests, none, token, then, up, over, holds, fails, Many, done, next, exact-iff, exact-to, exact-many, clash, same, Ground, plain, no-refusal, same-ground}
+use Rattle.grammar.proofs.Known.{Known, known, nothings, _⊳⊳_, _⊳·_, parents, flags, nexts, seconds, in-some, Anywhere}
 use Rattle.grammar.proofs.Lexemes.{opens, symbols, integers, words, one-word, lparen, rparen, word, rule-ident}
 use Rattle.grammar.proofs.Laws.{least, deepest-⧺, begins, no-at}
 use Rattle.grammar.proofs.Rows.{Read, item-on}
-use Rattle.grammar.proofs.Pattern.{exact-pattern}
-use Rattle.grammar.proofs.Expr.{exact-expr}
+use Rattle.grammar.proofs.Pattern.{whole-pattern}
+use Rattle.grammar.proofs.Expr.{whole-expr}
 use Rattle.grammar.proofs.Options.{is-true, is-false}
 
 -- ---- the name and the priority
@@ -38,7 +38,7 @@ pub data Weighed (s : Input) (i : ℕ) : Trees → ℕ → Type 0 where
   weighed : {a f : ℕ} {ts : Trees} → RulePriority s i a ts f → Weighed s i ts a
 
 module _ (s : Input) where
-  abbrev name-shape : Known (ruleName s)
+  abbrev name-shape : Known s (Anywhere s) (ruleName s)
   unfolding ruleName
   name-shape = nexts (symbols s) (known (rule-ident s)) nothings
 
@@ -52,7 +52,7 @@ module _ (s : Input) where
   name-back (called (named h)) = holds (h .symbol) (token h)
   name-back (called (unnamed n)) = fails n none
 
-  exact-name : Exact (ruleName s) (Called s)
+  exact-name : Exact s (Anywhere s) (ruleName s) (Called s)
   exact-name = exact-iff (name-shape .exact) (λ i ts j r. name-there r) (λ i ts j r. name-back r)
 
   short-tests : (i : ℕ) → Tests (isI64 (peek s i .word1) (peek s i .word2)) (Short s i)
@@ -87,16 +87,16 @@ module _ (s : Input) where
   priority-back place i (weighed (ranked k h)) = rw (is-true (integers s) k, short-true i h)
   priority-back place i (weighed (unranked n)) = rw (is-false (integers s) n)
 
-  priority-ground : (place i : ℕ) {e : Refusal} (a b : Bool)
-      → choose a (λ _. pick b (accept (node (head Priority 0 0 (peek s i .word2) 0) ∅ ▸ ∅) (i + 1)) (refuse (refusal 24 place (i + 1)))) (λ _. accept ∅ i) ≡ refuse e → Ground e
-  priority-ground place i true true z = absurd (no-refusal z)
-  priority-ground place i true false z = same-ground z (record { low = omega arith; high = omega arith })
-  priority-ground place i false b z = absurd (no-refusal z)
+  priority-ground : (start i : ℕ) {e : Refusal} (a b : Bool)
+      → choose a (λ _. pick b (accept (node (head Priority 0 0 (peek s i .word2) 0) ∅ ▸ ∅) (i + 1)) (refuse (refusal 24 (posAt s start) (i + 1)))) (λ _. accept ∅ i) ≡ refuse e → Ground s (Anywhere s i) e
+  priority-ground start i true true z = absurd (no-refusal z)
+  priority-ground start i true false z = same-ground z (plain start (omega arith) (omega arith) refl)
+  priority-ground start i false b z = absurd (no-refusal z)
 
-  exact-priority : (place : ℕ) → Exact (rulePriority s place) (Weighed s)
+  exact-priority : (start : ℕ) → Exact s (Anywhere s) (rulePriority s (posAt s start)) (Weighed s)
   unfolding rulePriority
-  exact-priority place =
-      record { sound = λ i e. priority-there place i (isInt (peek s i)) (isI64 (peek s i .word1) (peek s i .word2)) refl refl e; complete = λ i r. priority-back place i r; ground = λ i e z. priority-ground place i (isInt (peek s i)) (isI64 (peek s i .word1) (peek s i .word2)) z }
+  exact-priority start =
+      record { sound = λ i e. priority-there (posAt s start) i (isInt (peek s i)) (isI64 (peek s i .word1) (peek s i .word2)) refl refl e; complete = λ i r. priority-back (posAt s start) i r; ground = λ i e z. priority-ground start i (isInt (peek s i)) (isI64 (peek s i .word1) (peek s i .word2)) z }
 
   -- 1 named, 2 has priority
   rule-flags : {i a b f g : ℕ} {n q : Trees} → RuleName s i a n f → RulePriority s a b q g → ruleFlags s i ≡ f + g
@@ -154,16 +154,16 @@ module _ (s : Input) where
       go true false false p q r = record { yes = λ e. not-iffy (words s word-if-let .at (i + 1) .no q) (words s word-if .at (i + 1) .no r); no = λ e n. let z : _≡_ {A = ℕ} 0 1 = cc in omega arith }
       go false b c p q r = record { yes = λ e. not-open (opens s .at i .no p); no = λ e n. let z : _≡_ {A = ℕ} 0 1 = cc in omega arith }
 
-  abbrev either-shape : Known (parseIfletOrExpr s)
+  abbrev either-shape : Known s (Anywhere s) (parseIfletOrExpr s)
   unfolding parseIfletOrExpr parseIflet parseIfletIf
   either-shape =
       nexts (opens s)
       (seconds (words s word-if-let)
-      (known (lparen s) ⊳· word s word-if-let ⊳⊳ parents s IfLet 0 (known (exact-pattern s 64) ⊳⊳ known (exact-expr s 64)) ⊳· rparen s)
+      (known (lparen s) ⊳· word s word-if-let ⊳⊳ parents s IfLet 0 (known (whole-pattern s) ⊳⊳ known (whole-expr s)) ⊳· rparen s)
       (seconds (words s word-if)
-      (known (lparen s) ⊳· word s word-if ⊳⊳ parents s IfLet 0 (parents s Pattern·Wildcard 0 nothings ⊳⊳ known (exact-expr s 64)) ⊳· rparen s)
-      (known (exact-expr s 64))))
-      (known (exact-expr s 64))
+      (known (lparen s) ⊳· word s word-if ⊳⊳ parents s IfLet 0 (parents s Pattern·Wildcard 0 nothings ⊳⊳ known (whole-expr s)) ⊳· rparen s)
+      (known (whole-expr s))))
+      (known (whole-expr s))
 
   either-there : {i j : ℕ} {ts : Trees} → either-shape .Means i ts j → Either s i ts j
   unfolding parseIfletOrExpr parseIflet parseIfletIf deepest _⧺_
@@ -195,7 +195,7 @@ module _ (s : Input) where
   either-back (an-iflet r) = iflet-back (r .derives) (r .shallow)
   either-back (an-expression n r) = expr-back n r
 
-  exact-either : Exact (parseIfletOrExpr s) (Either s)
+  exact-either : Exact s (Anywhere s) (parseIfletOrExpr s) (Either s)
   exact-either = exact-iff (either-shape .exact) (λ i ts j r. either-there r) (λ i ts j r. either-back r)
 
   either-on : (i : ℕ) (ts : Trees) (j : ℕ) → Either s i ts j → (i < j) × (i < size s)
@@ -215,23 +215,23 @@ module _ (s : Input) where
   iflets-back k (cons {t = t} {ts = ts} p ps) h n =
       let z = deepest-⧺ t ts in next (λ m. m (iffy-of p)) (an-iflet (record { derives = p; shallow = omega arith })) (iflets-back (k + count t) ps (omega arith) n)
 
-  exact-iflets : Exact (many (size s) (noIflet s) (parseIfletOrExpr s)) (Iflets s)
+  exact-iflets : Exact s (Anywhere s) (many (size s) (noIflet s) (parseIfletOrExpr s)) (Iflets s)
   exact-iflets =
-      exact-iff (exact-many (size s) no-iflet-tests exact-either either-on)
+      exact-iff (exact-to (λ i k y. in-some y) (exact-many (size s) no-iflet-tests exact-either either-on))
       (λ i ts j r. iflets-there r) (λ i ts j r. iflets-back 0 (r .derives) (r .shallow) (r .ends))
 
   -- ---- rules
 
-  abbrev parts-shape : (place : ℕ) → Known (ruleParts s place)
+  abbrev parts-shape : (start : ℕ) → Known s (Anywhere s) (ruleParts s (posAt s start))
   unfolding ruleParts
-  parts-shape place = known (exact-name s) ⊳⊳ known (exact-priority s place) ⊳⊳ known (exact-pattern s 64) ⊳⊳ known exact-iflets ⊳⊳ known exact-either
+  parts-shape start = known (exact-name s) ⊳⊳ known (exact-priority s start) ⊳⊳ known (whole-pattern s) ⊳⊳ known exact-iflets ⊳⊳ known exact-either
 
   -- 24's place changes nothing in what is accepted
-  parts-anywhere : Exact (λ i. ruleParts s (posAt s i) i) (parts-shape 0 .Means)
+  parts-anywhere : Exact s (Anywhere s) (λ i. ruleParts s (posAt s i) i) (parts-shape 0 .Means)
   unfolding ruleParts
-  parts-anywhere = record { sound = λ i e. parts-shape (posAt s i) .exact .sound i e; complete = λ i r. parts-shape (posAt s i) .exact .complete i r; ground = λ i e z. parts-shape (posAt s i) .exact .ground i e z }
+  parts-anywhere = record { sound = λ i e. parts-shape i .exact .sound i e; complete = λ i r. parts-shape i .exact .complete i r; ground = λ i e z. parts-shape i .exact .ground i e z }
 
-  abbrev rule-shape : Known (parseRule s)
+  abbrev rule-shape : Known s (Anywhere s) (parseRule s)
   unfolding parseRule
   rule-shape = flags s Rule (ruleFlags s) (known parts-anywhere)
 
@@ -266,5 +266,5 @@ module _ (s : Input) where
       (over (then (then (then (then (called x) (weighed y)) (record { derives = p; shallow = omega arith; stops = λ _. after-pattern ps e })) (record { derives = ps; shallow = omega arith; ends = h }))
       (an-expression h (record { derives = e; shallow = omega arith }))))
 
-  pub exact-rule : Exact (parseRule s) (Read s rule 64)
+  pub exact-rule : Exact s (Anywhere s) (parseRule s) (Read s rule 64)
   exact-rule = exact-iff (rule-shape .exact) (λ i ts j r. rule-there r) (λ i ts j r. rule-back (r .derives) (r .shallow))

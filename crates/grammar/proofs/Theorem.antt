@@ -21,7 +21,10 @@ use Rattle.steps.specs.Keywords.{word-type, word-decl, word-attr, word-extern, 
 use Rattle.grammar.specs.Lexical.{Word}
 use Rattle.grammar.specs.Grammar.{Gram, definition, list, d-type, d-decl, d-attr, d-extern, d-extractor, d-rule, d-convert}
 use Rattle.grammar.specs.Depth.{deepest}
-use Rattle.grammar.specs.Meaning.{GoodAt, GoodList, Derived, Accepted, Refused, too-much, cut-short, bad-token, underived, no-space, Meaning, Worth, accepted, refused}
+use Rattle.grammar.specs.Meaning.{GoodAt, GoodList, Derived, Accepted, Refused, Underived, too-much, cut-short, bad-token, too-deep, no-parse, no-space, Meaning, Worth, accepted, refused}
+use Rattle.steps.specs.declared.Refusal.{Refusal}
+use Rattle.grammar.proofs.Exact.{Ground, deep, plain}
+use Rattle.grammar.proofs.Known.{Bottom, bottom}
 use Rattle.grammar.proofs.Laws.{sizes-records, fit, spare, listed}
 use Rattle.grammar.proofs.Defs.{exact-defs, defs-within}
 
@@ -101,25 +104,30 @@ module _ (s : Input) (space : ℕ) where
   sized ts d true e = record { derived = d; fits = leb-true _ space e; alone = λ us u. unique s us ts u d; three = three s ts (d .derives) }
   sized ts d false e = no-space d (leb-false _ space e)
 
+  -- a refusal of the parser, by its ground
+  by-ground : {e : Refusal} → Underived s → Ground s (Bottom s) e → Refused s space (e .code) (e .place)
+  by-ground u (deep k (bottom x) c p) = rw (c, p) (too-deep u x)
+  by-ground u (plain k l h p) = rw p (no-parse k u l h)
+
   good-list : GoodList s → (o : Outcome) → parseDefs s 0 ≡ o → Meaning s space (fitted space o)
   unfolding fitted
   good-list g (accept ts j) e = let p = parsed s ts j e in sized ts (record { list-good = g; derives = p .derives; shallow = p .shallow }) (leb (length (recordsAll ts)) space) refl
   good-list g (refuse d) e =
-      let why = exact-defs s .ground 0 d e in told (underived g (why .low) (why .high) (λ ts t. never-parsed ts (parses s ts (record { derives = t .derives; shallow = t .shallow }))))
+      told (by-ground (record { list-good = g; none = λ ts t. never-parsed ts (parses s ts (record { derives = t .derives; shallow = t .shallow })) }) (exact-defs s .ground 0 d e))
     where
       never-parsed : (ts : Trees) → parseDefs s 0 ≡ accept ts (size s) → ⊥
       never-parsed ts h = let z : _≡_ {A = ℕ} 0 1 = cc in omega arith
 
   tokens-judged : Limited s → length (s .tokens) % 24 ≡ 0 → (b : Bool) → ltb (bad s (size s) 0) (size s) ≡ b → Meaning s space (choose b (λ _. stopped 2 (bad s (size s) 0)) (λ _. fitted space (parseDefs s 0)))
   tokens-judged l w true e =
-      let h = ltb-true _ (size s) e in told (bad-token l w h (bad-there s (size s) 0 (omega arith)) (λ i k. before-bad s (size s) 0 i (omega arith) k))
+      let h = ltb-true _ (size s) e in told (bad-token (record { limited = l; whole = w; there = h; bad = bad-there s (size s) 0 (omega arith); good-before = λ i k. before-bad s (size s) 0 i (omega arith) k }))
   tokens-judged l w false e =
       let h = ltb-false _ (size s) e in good-list (record { limited = l; whole = w; good = λ i k. before-bad s (size s) 0 i (omega arith) (omega arith) }) (parseDefs s 0) refl
 
   whole-judged : Limited s → (b : Bool) → eqb (length (s .tokens) % 24) 0 ≡ b → Meaning s space (choose b (λ _. judged s space (bad s (size s) 0)) (λ _. stopped 1 0))
   unfolding judged
   whole-judged l true e = tokens-judged l (eqb-true _ 0 e) (ltb (bad s (size s) 0) (size s)) refl
-  whole-judged l false e = told (cut-short l (eqb-false _ 0 e))
+  whole-judged l false e = told (cut-short (record { limited = l; cut = eqb-false _ 0 e }))
 
   short-judged : size s ≤ 16384 → (b : Bool) → ltb 65536 (length (s .text)) ≡ b
       → Meaning s space (choose b (λ _. stopped 7 0) (λ _. choose (eqb (length (s .tokens) % 24) 0) (λ _. judged s space (bad s (size s) 0)) (λ _. stopped 1 0)))
@@ -152,9 +160,10 @@ zero-if-accepted a = omega (arith, a .three, a .derived .list-good .limited .few
 
 pub code-positive : {s : Input} {space code place : ℕ} → Refused s space code place → 0 < code
 code-positive (too-much n) = omega arith
-code-positive (cut-short l n) = omega arith
-code-positive (bad-token l w h n g) = omega arith
-code-positive (underived g l h n) = omega arith
+code-positive (cut-short c) = omega arith
+code-positive (bad-token b) = omega arith
+code-positive (too-deep u x) = omega arith
+code-positive (no-parse k u l h) = omega arith
 code-positive (no-space u h) = omega arith
 
 pub positive-if-refused : {s : Input} {space code place : ℕ} → Refused s space code place → 0 < refusalOf (number (stopped code place))
@@ -164,9 +173,10 @@ positive-if-refused r = omega (arith, code-positive r)
 -- a derived list is refused with 6 alone, and then its records are more than the space: any other refusal says that nothing is derived
 pub only-six : {s : Input} {space code place : ℕ} {ts : Trees} → Refused s space code place → Derived s ts → (code ≡ 6) × (space < length (recordsAll ts))
 only-six (too-much n) d = absurd (n (d .list-good .limited))
-only-six (cut-short l n) d = absurd (n (d .list-good .whole))
-only-six (bad-token l w h n g) d = absurd (n (d .list-good .good _ h))
-only-six (underived g l h n) d = absurd (n _ d)
+only-six (cut-short c) d = absurd (c .cut (d .list-good .whole))
+only-six (bad-token b) d = absurd (b .bad (d .list-good .good _ (b .there)))
+only-six (too-deep u x) d = absurd (u .none _ d)
+only-six (no-parse k u l h) d = absurd (u .none _ d)
 only-six {s} {ts = ts} (no-space {ts = us} u h) d = (refl, rw (unique s us ts u d) at h)
 
 -- EXACT: reading accepts with ts exactly if ts are derived and their records fit the space

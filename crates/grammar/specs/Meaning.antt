@@ -5,11 +5,12 @@ use mathlib.Core.Bool.{true}
 use mathlib.Core.List.{List}
 use lib.ListN.{length}
 use Rattle.trees.specs.Tree.{Trees, recordsAll}
-use Rattle.tokens.specs.Input.{Input, Limited, size}
+use Rattle.tokens.specs.Input.{Input, Limited, posAt, size}
 use Rattle.tokens.specs.Lent.{goodToken}
 use Rattle.parser.specs.Reading.{Reading, done, stopped, number, bytes}
-use Rattle.grammar.specs.Grammar.{Gram, definition, list}
+use Rattle.grammar.specs.Grammar.{Part, Gram, definition, list}
 use Rattle.grammar.specs.Depth.{deepest}
+use Rattle.grammar.specs.Nesting.{Nested}
 
 abbrev pub GoodAt : Input → ℕ → Type 0
 GoodAt s i = goodToken (s .tokens) (s .text) (s .end) i ≡ true
@@ -33,12 +34,32 @@ pub record Accepted (s : Input) (space : ℕ) (ts : Trees) : Type 0 where
   pub alone : (us : Trees) → Derived s us → us ≡ ts
   pub three : length (recordsAll ts) ≤ 3 * size s
 
--- a refusal, by its number and place: each ground where none before it holds. In all of them but the last nothing is derived
+-- a part of a token after the last whole one
+pub record CutShort (s : Input) : Type 0 where
+  pub limited : Limited s
+  pub cut : length (s .tokens) % 24 ≡ 0 → ⊥
+
+-- the first token that is not good stands at index k
+pub record FirstBad (s : Input) (k : ℕ) : Type 0 where
+  pub limited : Limited s
+  pub whole : length (s .tokens) % 24 ≡ 0
+  pub there : k < size s
+  pub bad : GoodAt s k → ⊥
+  pub good-before : (i : ℕ) → i < k → GoodAt s i
+
+-- a good list of which nothing is derived
+pub record Underived (s : Input) : Type 0 where
+  pub list-good : GoodList s
+  pub none : (ts : Trees) → Derived s ts → ⊥
+
+-- a refusal, by its number and place: each ground where none before it holds. A refusal of the parser stands at token k, which is the end
+-- where k is past the last one; it is 8 only where a pattern or an expression of depth 65 begins there
 pub data Refused (s : Input) (space : ℕ) : ℕ → ℕ → Type 0 where
   too-much : (Limited s → ⊥) → Refused s space 7 0
-  cut-short : Limited s → (length (s .tokens) % 24 ≡ 0 → ⊥) → Refused s space 1 0
-  bad-token : {k : ℕ} → Limited s → length (s .tokens) % 24 ≡ 0 → k < size s → (GoodAt s k → ⊥) → ((i : ℕ) → i < k → GoodAt s i) → Refused s space 2 k
-  underived : {code place : ℕ} → GoodList s → 8 ≤ code → code ≤ 27 → ((ts : Trees) → Derived s ts → ⊥) → Refused s space code place
+  cut-short : CutShort s → Refused s space 1 0
+  bad-token : {k : ℕ} → FirstBad s k → Refused s space 2 k
+  too-deep : {x : Part} {i k : ℕ} → Underived s → Nested s x 64 i k → Refused s space 8 (posAt s k)
+  no-parse : {code : ℕ} (k : ℕ) → Underived s → 10 ≤ code → code ≤ 27 → Refused s space code (posAt s k)
   no-space : {ts : Trees} → Derived s ts → space < length (recordsAll ts) → Refused s space 6 0
 
 unfoldable pub Meaning : Input → ℕ → Reading → Type 0
