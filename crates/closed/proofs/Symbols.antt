@@ -1,13 +1,12 @@
 -- A good token's symbol lies in the text, and so does what is left of a constant without its `$`. Assumes nothing.
 use Prim.Native.Nat.{ℕ, _+_, _/_, _%_, _≤_, _<_}
 use native.Mathlib.Omega.{arith}
-use mathlib.Core.Path.{_≡_, refl}
-use mathlib.Core.Bool.{Bool, true, false, false≢true}
+use mathlib.Core.Path.{_≡_}
+use mathlib.Core.Bool.{true}
 use mathlib.Core.List.{List}
 use lib.ListN.{length, length-take}
 use lib.Dec.{eqb, ltb}
 use borrow.Author.Tests.{lt-ltb, ltb-false}
-use Rattle.trees.specs.Choice.{pick}
 use Rattle.trees.specs.Names.{spelled}
 use Rattle.tokens.specs.Token.{tokenAt}
 use Rattle.tokens.specs.Lent.{goodSymbol, goodValue, goodWords, goodToken}
@@ -15,14 +14,7 @@ use Rattle.tokens.specs.Input.{Input, peek, size}
 use Rattle.grammar.specs.Lexical.{Symbol, Identifier, identifier}
 use Rattle.grammar.specs.Meaning.{GoodList}
 use Rattle.grammar.proofs.Lexemes.{there}
-
-passed : (b : Bool) {x : Bool} → pick b false x ≡ true → (b ≡ false) × (x ≡ true)
-passed true e = absurd (false≢true e)
-passed false e = (refl, e)
-
-taken : (b : Bool) {x : Bool} → pick b x false ≡ true → x ≡ true
-taken true e = e
-taken false e = absurd (false≢true e)
+use Rattle.grammar.proofs.Places.{passed, taken}
 
 -- a range lies inside a text of t bytes
 abbrev pub Inside : ℕ → ℕ → Type 0

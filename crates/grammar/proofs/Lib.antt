@@ -1,4 +1,4 @@
--- That reading is exact for the grammar. The theorems are in Theorem.antt.
+-- That reading is exact for the grammar. The theorems are in Theorem.antt, Places.antt and Exactly.antt.
 pub mod Exact
 pub mod Known
 pub mod Lexemes
@@ -11,4 +11,6 @@ pub mod Types
 pub mod Rules
 pub mod Defs
 pub mod Theorem
+pub mod Places
+pub mod Exactly
 pub mod Examples

@@ -102,7 +102,7 @@ module _ (s : Input) (space : ℕ) where
   sized : (ts : Trees) → Derived s ts → (b : Bool) → leb (length (recordsAll ts)) space ≡ b → Meaning s space (pick b (done ts) (stopped 6 0))
   unfolding Meaning
   sized ts d true e = record { derived = d; fits = leb-true _ space e; alone = λ us u. unique s us ts u d; three = three s ts (d .derives) }
-  sized ts d false e = no-space d (leb-false _ space e)
+  sized ts d false e = no-space (record { trees = ts; derived = d; longer = leb-false _ space e })
 
   -- a refusal of the parser, by its ground
   by-ground : {e : Refusal} → Underived s → Ground s (Bottom s) e → Refused s space (e .code) (e .place)
@@ -158,17 +158,18 @@ pub zero-if-accepted : {s : Input} {space : ℕ} {ts : Trees} → Accepted s spa
 unfolding number result.accepted
 zero-if-accepted a = omega (arith, a .three, a .derived .list-good .limited .few)
 
-pub code-positive : {s : Input} {space code place : ℕ} → Refused s space code place → 0 < code
-code-positive (too-much n) = omega arith
-code-positive (cut-short c) = omega arith
-code-positive (bad-token b) = omega arith
-code-positive (too-deep u x) = omega arith
-code-positive (no-parse k u l h) = omega arith
-code-positive (no-space u h) = omega arith
+-- one of document 01's numbers for reading: 1, 2, 6 to 8, 10 to 27
+pub numbered : {s : Input} {space code place : ℕ} → Refused s space code place → (0 < code) × (code ≤ 27) × (code ≡ 9 → ⊥)
+numbered (too-much n) = (omega arith, omega arith, λ e. omega arith)
+numbered (cut-short c) = (omega arith, omega arith, λ e. omega arith)
+numbered (bad-token b) = (omega arith, omega arith, λ e. omega arith)
+numbered (too-deep u x) = (omega arith, omega arith, λ e. omega arith)
+numbered (no-parse k u l h) = (omega arith, omega arith, λ e. omega arith)
+numbered (no-space x) = (omega arith, omega arith, λ e. omega arith)
 
 pub positive-if-refused : {s : Input} {space code place : ℕ} → Refused s space code place → 0 < refusalOf (number (stopped code place))
 unfolding number result.refused
-positive-if-refused r = omega (arith, code-positive r)
+positive-if-refused r = omega (arith, numbered r .0)
 
 -- a derived list is refused with 6 alone, and then its records are more than the space: any other refusal says that nothing is derived
 pub only-six : {s : Input} {space code place : ℕ} {ts : Trees} → Refused s space code place → Derived s ts → (code ≡ 6) × (space < length (recordsAll ts))
@@ -177,7 +178,7 @@ only-six (cut-short c) d = absurd (c .cut (d .list-good .whole))
 only-six (bad-token b) d = absurd (b .bad (d .list-good .good _ (b .there)))
 only-six (too-deep u x) d = absurd (u .none _ d)
 only-six (no-parse k u l h) d = absurd (u .none _ d)
-only-six {s} {ts = ts} (no-space {ts = us} u h) d = (refl, rw (unique s us ts u d) at h)
+only-six {s} {ts = ts} (no-space x) d = (refl, rw (unique s (x .trees) ts (x .derived) d) at (x .longer))
 
 -- EXACT: reading accepts with ts exactly if ts are derived and their records fit the space
 accepted-of : (s : Input) (space : ℕ) (ts : Trees) → Meaning s space (done ts) → Accepted s space ts

@@ -3,8 +3,10 @@ use Prim.Native.Nat.{ℕ, _*_, _%_, _<_, _≤_}
 use mathlib.Core.Path.{_≡_}
 use mathlib.Core.Bool.{true}
 use mathlib.Core.List.{List}
+use mathlib.Core.Logic.{_↔_}
 use lib.ListN.{length}
 use Rattle.trees.specs.Tree.{Trees, recordsAll}
+use Rattle.records.specs.Result.{refusalOf}
 use Rattle.tokens.specs.Input.{Input, Limited, posAt, size}
 use Rattle.tokens.specs.Lent.{goodToken}
 use Rattle.parser.specs.Reading.{Reading, done, stopped, number, bytes}
@@ -52,6 +54,12 @@ pub record Underived (s : Input) : Type 0 where
   pub list-good : GoodList s
   pub none : (ts : Trees) → Derived s ts → ⊥
 
+-- derived trees with more records than the space
+pub record TooLong (s : Input) (space : ℕ) : Type 0 where
+  pub trees : Trees
+  pub derived : Derived s trees
+  pub longer : space < length (recordsAll trees)
+
 -- a refusal, by its number and place: each ground where none before it holds. A refusal of the parser stands at token k, which is the end
 -- where k is past the last one; it is 8 only where a pattern or an expression of depth 65 begins there
 pub data Refused (s : Input) (space : ℕ) : ℕ → ℕ → Type 0 where
@@ -60,7 +68,7 @@ pub data Refused (s : Input) (space : ℕ) : ℕ → ℕ → Type 0 where
   bad-token : {k : ℕ} → FirstBad s k → Refused s space 2 k
   too-deep : {x : Part} {i k : ℕ} → Underived s → Nested s x 64 i k → Refused s space 8 (posAt s k)
   no-parse : {code : ℕ} (k : ℕ) → Underived s → 10 ≤ code → code ≤ 27 → Refused s space code (posAt s k)
-  no-space : {ts : Trees} → Derived s ts → space < length (recordsAll ts) → Refused s space 6 0
+  no-space : TooLong s space → Refused s space 6 0
 
 unfoldable pub Meaning : Input → ℕ → Reading → Type 0
 Meaning s space (done ts) = Accepted s space ts
@@ -70,3 +78,22 @@ Meaning s space (stopped code place) = Refused s space code place
 pub data Worth (s : Input) (space n : ℕ) : ℕ → List ℕ → Type 0 where
   accepted : {ts : Trees} → Accepted s space ts → Worth s space n (number (done ts)) (bytes n (done ts))
   refused : {code place : ℕ} → Refused s space code place → Worth s space n (number (stopped code place)) (bytes n (stopped code place))
+
+-- derived trees whose records fit the space
+pub record Fitting (s : Input) (space : ℕ) : Type 0 where
+  pub trees : Trees
+  pub derived : Derived s trees
+  pub fits : length (recordsAll trees) ≤ space
+
+-- EXACTLY, of the number r that is returned and an output l of n bytes: each answer is given if and only if its ground holds and none before it.
+-- Places have 32 bits; 8 and above are the parser's
+pub record Exactly (s : Input) (space n r : ℕ) (l : List ℕ) : Type 0 where
+  pub seven : (r ≡ number (stopped 7 0)) ↔ (Limited s → ⊥)
+  pub one : (r ≡ number (stopped 1 0)) ↔ CutShort s
+  pub two : (k : ℕ) → k < 4294967296 → (r ≡ number (stopped 2 k)) ↔ FirstBad s k
+  pub parser : (8 ≤ refusalOf r) ↔ Underived s
+  pub six : (r ≡ number (stopped 6 0)) ↔ TooLong s space
+  pub accepts : (refusalOf r ≡ 0) ↔ Fitting s space
+  -- and then these trees are what is returned and written
+  pub returns : (f : Fitting s space) → r ≡ number (done (f .trees))
+  pub writes : (f : Fitting s space) → l ≡ bytes n (done (f .trees))
