@@ -172,3 +172,8 @@ acceptance-exactly {s} {space} {ts} n a =
 pub exactly : {s : Input} {space n r : ℕ} {l : List ℕ} → s .end < 4294967296 → Worth s space n r l → Exactly s space n r l
 exactly {n = n} e (accepted a) = acceptance-exactly n a
 exactly {n = n} e (refused f) = refusal-exactly n e f
+
+-- no number has another refusal than document 01's
+pub refusal-within : {s : Input} {space n r : ℕ} {l : List ℕ} → s .end < 4294967296 → Worth s space n r l → refusalOf r ≤ 27
+refusal-within e (accepted a) = omega (arith, accepted-low a)
+refusal-within e (refused {code = code} {place = place} f) = omega (arith, code-is code place (place-low e f), numbered f .1)

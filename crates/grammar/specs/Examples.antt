@@ -16,3 +16,7 @@ tree = one (node (head Rule 0 6 0 0) (node (head Pattern·Term 0 6 0 0) (id 7 1 
 -- `(rule 5 x)`
 unfoldable pub refused : Input
 refused = input (tok 1 0 0 0 ++ sym 1 4 ++ tok 4 6 0 5 ++ sym 8 1 ++ tok 2 9 0 0) (40 ∷ 114 ∷ 117 ∷ 108 ∷ 101 ∷ 32 ∷ 53 ∷ 32 ∷ 120 ∷ 41 ∷ []) 10
+
+-- `(rule r x@(A y) z)`
+unfoldable pub bound : Input
+bound = input (tok 1 0 0 0 ++ sym 1 4 ++ sym 6 1 ++ sym 8 1 ++ tok 5 9 0 0 ++ tok 1 10 0 0 ++ sym 11 1 ++ sym 13 1 ++ tok 2 14 0 0 ++ sym 16 1 ++ tok 2 17 0 0) (40 ∷ 114 ∷ 117 ∷ 108 ∷ 101 ∷ 32 ∷ 114 ∷ 32 ∷ 120 ∷ 64 ∷ 40 ∷ 65 ∷ 32 ∷ 121 ∷ 41 ∷ 32 ∷ 122 ∷ 41 ∷ []) 18
