@@ -17,15 +17,16 @@ use Rattle.steps.specs.Keywords.{word-pragma, word-type, word-decl, word-attr, 
 use Rattle.steps.specs.Outcome.{Reader, accept, ate, row, pragmaRefusal}
 use Rattle.parser.specs.Defs as defs
 use Rattle.parser.specs.Defs.{declFlags, declModifiers, declNames, parseDecl, parseAttrKindVeri, parseAttrKind, parseAttr, parseExtern, etorHead, parseEtor, parseConverter, parsePragma, isUncovered, otherDef, restDef, parseDef, parseDefs}
-use Rattle.grammar.specs.Lexical.{Close, one, nameAt, spelling}
-use Rattle.grammar.specs.Grammar.{Optional, definition, decl, attr, attribute, extern, converter, list, Gram, empty, cons, d-type, d-decl, d-attr, d-extern, d-extractor, d-rule, d-convert, c-decl, a-attr, a-chain, a-priority, a-tag, x-constructor, x-extractor, x-const, x-template, k-convert}
+use Rattle.grammar.specs.Lexical.{Open, Close, Word, one, nameAt, spelling}
+use Rattle.grammar.specs.Grammar.{Optional, rule, definition, decl, attr, attribute, extern, converter, list, Gram, empty, cons, d-type, d-decl, d-attr, d-extern, d-extractor, d-rule, d-convert, c-decl, a-attr, a-chain, a-priority, a-tag, x-constructor, x-extractor, x-const, x-template, k-convert}
 use Rattle.grammar.specs.Depth.{deepest}
-use Rattle.grammar.proofs.Exact.{never, Exact, Tests, Judges, One, token, then, up, over, holds, fails, Many, done, next, exact-iff, exact-to, exact-many, same, no-refusal}
-use Rattle.grammar.proofs.Known.{Known, known, refuses, refusesAfter, _⊳⊳_, _⊳·_, parents, flags, bares, nexts, seconds, in-some, Anywhere}
+use Rattle.grammar.specs.Nesting.{b-definitions, b-extractor, b-rule, b-template, Deep, inside}
+use Rattle.grammar.proofs.Exact.{never, Exact, Tests, Nowhere, after, if-so, if-not, Among, in-item, past-item, Judges, One, token, then, up, over, holds, fails, Many, done, next, exact-iff, exact-to, exact-many, same, no-refusal}
+use Rattle.grammar.proofs.Known.{Known, known, refuses, refusesAfter, _⊳⊳_, _⊳·_, parents, flags, bares, nexts, seconds, quiet, _⊳↓_, seconds↓, Inner, inner}
 use Rattle.grammar.proofs.Lexemes.{there, other, words, one-word, lparen, rparen, word, ident, constant, exact-name, ident-within, either-ground}
 use Rattle.grammar.proofs.Laws.{least, deepest-⧺}
 use Rattle.grammar.proofs.Rows.{Read, Shut, item-on, exact-row}
-use Rattle.grammar.proofs.Pattern.{whole-pattern}
+use Rattle.grammar.proofs.Pattern.{exact-pattern}
 use Rattle.grammar.proofs.Options.{optional-at, ate-is, flag-is, eats, exact-eat}
 use Rattle.grammar.proofs.Types.{names, exact-typedef}
 use Rattle.grammar.proofs.Rules.{exact-rule}
@@ -40,7 +41,7 @@ unfolding declFlags
 decl-flags x y z w = rw (ate-is x, ate-is y, ate-is z, ate-is w) (omega (arith, flag-is x, flag-is y, flag-is z, flag-is w))
 
 module _ (s : Input) where
-  exact-declModifiers : Exact s (Anywhere s) (declModifiers s) (DeclModifiers s)
+  exact-declModifiers : Exact s Nowhere (declModifiers s) (DeclModifiers s)
   unfolding declModifiers
   exact-declModifiers =
       record {
@@ -52,7 +53,7 @@ module _ (s : Input) where
       back : (i : ℕ) {ts : Trees} {j : ℕ} → DeclModifiers s i ts j → accept ∅ (ate s word-rec (ate s word-partial (ate s word-multi (ate s word-pure i)))) ≡ accept ts j
       back i (modifiers x y z w) = rw (ate-is x, ate-is y, ate-is z, ate-is w)
 
-  abbrev decl-shape : Known s (Anywhere s) (parseDecl s)
+  abbrev decl-shape : Known s Nowhere (parseDecl s)
   unfolding parseDecl declNames
   decl-shape = flags s Decl (declFlags s) (known exact-declModifiers ⊳⊳ (known (ident s) ⊳· lparen s ⊳⊳ known (names s 64) ⊳· rparen s ⊳⊳ known (ident s)))
 
@@ -67,12 +68,12 @@ module _ (s : Input) where
       let a = deepest-⧺ ts (one (nameAt s (j + 1))) in
       rw (← decl-flags x y z w) (over (then (modifiers x y z w) (then (up (then (up (token h) o) (record { derives = ns; shallow = omega arith; shuts = c })) c) (token u))))
 
-  exact-decl : Exact s (Anywhere s) (parseDecl s) (Read s decl 64)
+  exact-decl : Exact s Nowhere (parseDecl s) (Read s decl 64)
   exact-decl = exact-iff (decl-shape .exact) (λ i ts j r. decl-there r) (λ i ts j r. decl-back (r .derives) (r .shallow))
 
   -- ---- attributes
 
-  abbrev attribute-shape : Known s (Anywhere s) (parseAttrKind s)
+  abbrev attribute-shape : Known s Nowhere (parseAttrKind s)
   unfolding parseAttrKind parseAttrKindVeri
   attribute-shape =
       seconds (words s word-veri)
@@ -96,14 +97,14 @@ module _ (s : Input) where
   attribute-back (a-priority o w v c) = holds w (up (then (up (token o) w) (fails (λ z. one-word v z refl) (holds v (over (token v))))) c)
   attribute-back (a-tag o w h c) = fails (λ z. one-word w z refl) (holds w (up (then (up (token o) w) (over (token h))) c))
 
-  attributes : Exact s (Anywhere s) (row s (parseAttrKind s)) (Shut s (list attribute) 64)
+  attributes : Exact s Nowhere (row s (parseAttrKind s)) (Shut s (list attribute) 64)
   unfolding least
   attributes = exact-row refl (exact-iff (attribute-shape .exact) (λ i ts j r. attribute-there r) (λ i ts j r. attribute-back (r .derives)))
 
   one-flag : {w : List ℕ} {i a p : ℕ} → Optional s w 1 i a p → ate s w i - i ≡ p
   one-flag x = rw (ate-is x) (omega (arith, flag-is x))
 
-  abbrev attr-shape : Known s (Anywhere s) (parseAttr s)
+  abbrev attr-shape : Known s Nowhere (parseAttr s)
   unfolding parseAttr
   attr-shape = flags s Attr (λ i. ate s word-rule i - i) (known (exact-eat s word-rule) ⊳⊳ known (ident s) ⊳⊳ known attributes)
 
@@ -115,12 +116,12 @@ module _ (s : Input) where
   unfolding parseAttr deepest _⧺_
   attr-back (a-attr x h ps) m c = rw (← one-flag x) (over (then (then (eats x) (token h)) (record { derives = ps; shallow = omega arith; shuts = c })))
 
-  exact-attr : Exact s (Anywhere s) (parseAttr s) (Shut s attr 64)
+  exact-attr : Exact s Nowhere (parseAttr s) (Shut s attr 64)
   exact-attr = exact-iff (attr-shape .exact) (λ i ts j r. attr-there r) (λ i ts j r. attr-back (r .derives) (r .shallow) (r .shuts))
 
   -- ---- externs
 
-  abbrev extern-shape : Known s (Anywhere s) (parseExtern s)
+  abbrev extern-shape : Known s Nowhere (parseExtern s)
   unfolding parseExtern
   extern-shape =
       nexts (words s word-constructor) (parents s Extern·Constructor 0 (known (word s word-constructor) ⊳⊳ known (ident s) ⊳⊳ known (ident s)))
@@ -141,12 +142,12 @@ module _ (s : Input) where
   extern-back (x-extractor w x h u) = rw (← one-flag x) (fails (λ z. one-word w z refl) (holds w (over (then (then (then (token w) (eats x)) (token h)) (token u)))))
   extern-back (x-const w h u) = fails (λ z. one-word w z refl) (fails (λ z. one-word w z refl) (holds w (then (token w) (over (then (token h) (token u))))))
 
-  exact-extern : Exact s (Anywhere s) (parseExtern s) (Read s extern 64)
+  exact-extern : Exact s Nowhere (parseExtern s) (Read s extern 64)
   exact-extern = exact-iff (extern-shape .exact) (λ i ts j r. extern-there r) (λ i ts j r. extern-back (r .derives))
 
   -- ---- converters
 
-  abbrev convert-shape : Known s (Anywhere s) (parseConverter s)
+  abbrev convert-shape : Known s Nowhere (parseConverter s)
   unfolding parseConverter
   convert-shape = parents s Converter 0 (known (ident s) ⊳⊳ known (ident s) ⊳⊳ known (ident s))
 
@@ -158,7 +159,7 @@ module _ (s : Input) where
   unfolding parseConverter _⧺_
   convert-back (k-convert h u v) = over (then (then (token h) (token u)) (token v))
 
-  exact-converter : Exact s (Anywhere s) (parseConverter s) (Read s converter 64)
+  exact-converter : Exact s Nowhere (parseConverter s) (Read s converter 64)
   exact-converter = exact-iff (convert-shape .exact) (λ i ts j r. convert-there r) (λ i ts j r. convert-back (r .derives))
 
   -- ---- no pragma
@@ -175,7 +176,7 @@ module _ (s : Input) where
   unfolding pragmaRefusal
   pragma-ground b n = either-ground b 17 (identRefusal b) (λ z. (omega arith, omega arith)) (ident-within b) n
 
-  exact-pragma : Exact s (Anywhere s) (parsePragma s) (One (λ _. ⊥) (λ i. one (nameAt s i)))
+  exact-pragma : Exact s Nowhere (parsePragma s) (One (λ _. ⊥) (λ i. one (nameAt s i)))
   unfolding parsePragma
   exact-pragma = exact-name (λ w. w) (record { yes = λ i k e. no-pragma (spelling s i) e; symbol = λ i h. absurd h; obeys = λ i h. absurd h; ground = λ b n. pragma-ground b n })
 
@@ -185,25 +186,26 @@ module _ (s : Input) where
   by-test : (test : Token → Bool) → Judges s test (λ i. test (peek s i) ≡ true)
   by-test test = record { at = λ i. record { yes = λ e. e; no = λ e h. let z : _≡_ {A = ℕ} 0 1 = cc in omega arith } }
 
-  abbrev worded : (w : List ℕ) {f : Reader} → Known s (Anywhere s) f → Known s (Anywhere s) (defs.worded s w f)
+  abbrev worded : (w : List ℕ) {f : Reader} → Known s Nowhere f → Known s Nowhere (defs.worded s w f)
   worded w r = known (lparen s) ⊳· word s w ⊳⊳ r ⊳· rparen s
 
-  abbrev def-shape : Known s (Anywhere s) (parseDef s)
+  abbrev def-shape : Inner s (parseDef s)
   unfolding parseDef restDef otherDef parseEtor etorHead
   def-shape =
-      seconds (words s word-pragma) (worded word-pragma (known exact-pragma))
-      (seconds (words s word-type) (worded word-type (known (exact-typedef s 64)))
-      (seconds (words s word-decl) (worded word-decl (known exact-decl))
-      (seconds (words s word-attr) (worded word-attr (known exact-attr))
-      (seconds (words s word-rule) (worded word-rule (known (exact-rule s)))
-      (seconds (words s word-extractor)
-      (worded word-extractor (parents s Extractor 0 (known (lparen s) ⊳⊳ known (ident s) ⊳⊳ known (names s 64) ⊳· rparen s ⊳⊳ known (whole-pattern s))))
-      (seconds (words s word-extern) (worded word-extern (known exact-extern))
+      inner (seconds↓ (words s word-pragma) (quiet (worded word-pragma (known exact-pragma)))
+      (seconds↓ (words s word-type) (quiet (worded word-type (known (exact-typedef s 64))))
+      (seconds↓ (words s word-decl) (quiet (worded word-decl (known exact-decl)))
+      (seconds↓ (words s word-attr) (quiet (worded word-attr (known exact-attr)))
+      (seconds↓ (words s word-rule) (known (lparen s) ⊳· word s word-rule ⊳↓ known (exact-rule s) ⊳· rparen s)
+      (seconds↓ (words s word-extractor)
+      (known (lparen s) ⊳· word s word-extractor
+      ⊳↓ parents s Extractor 0 (known (lparen s) ⊳⊳ known (ident s) ⊳⊳ known (names s 64) ⊳· rparen s ⊳↓ known (exact-pattern s 64)) ⊳· rparen s)
+      (quiet (seconds (words s word-extern) (worded word-extern (known exact-extern))
       (seconds (words s word-convert) (worded word-convert (known exact-converter))
       (seconds (by-test (isUncovered (s .text))) (known (lparen s) ⊳⊳ refusesAfter s 3 27 (omega arith) (omega arith))
-      (known (lparen s) ⊳⊳ refusesAfter s 3 12 (omega arith) (omega arith))))))))))
+      (known (lparen s) ⊳⊳ refusesAfter s 3 12 (omega arith) (omega arith))))))))))))
 
-  def-there : {i j : ℕ} {ts : Trees} → def-shape .Means i ts j → Read s definition 64 i ts j
+  def-there : {i j : ℕ} {ts : Trees} → def-shape .reads .Means i ts j → Read s definition 64 i ts j
   unfolding parseDef restDef otherDef parseEtor etorHead deepest _⧺_
   def-there (holds v (up (then (up (token o) w) (token h)) c)) = absurd h
   def-there (fails _ (holds v (up (then (up (token o) w) r) c))) = record { derives = d-type o w (r .derives) c; shallow = r .shallow }
@@ -217,7 +219,7 @@ module _ (s : Input) where
   def-there (fails _ (fails _ (fails _ (fails _ (fails _ (fails _ (fails _ (fails _ (holds v (then _ y)))))))))) = absurd (never y)
   def-there (fails _ (fails _ (fails _ (fails _ (fails _ (fails _ (fails _ (fails _ (fails _ (then _ y)))))))))) = absurd (never y)
 
-  def-back : {i j : ℕ} {ts : Trees} → Gram s definition i j ts → deepest ts ≤ 64 → def-shape .Means i ts j
+  def-back : {i j : ℕ} {ts : Trees} → Gram s definition i j ts → deepest ts ≤ 64 → def-shape .reads .Means i ts j
   unfolding parseDef restDef otherDef parseEtor etorHead deepest _⧺_ sameBytes
   def-back (d-type o w p c) m = fails (λ z. one-word w z refl) (holds w (up (then (up (token o) w) (record { derives = p; shallow = m })) c))
   def-back (d-decl o w p c) m = fails (λ z. one-word w z refl) (fails (λ z. one-word w z refl) (holds w (up (then (up (token o) w) (record { derives = p; shallow = m })) c)))
@@ -239,8 +241,17 @@ module _ (s : Input) where
       fails (λ z. one-word w z refl) (fails (λ z. one-word w z refl) (fails (λ z. one-word w z refl) (fails (λ z. one-word w z refl) (fails (λ z. one-word w z refl) (fails (λ z. one-word w z refl) (fails (λ z. one-word w z refl)
       (holds w (up (then (up (token o) w) (record { derives = p; shallow = m })) c))))))))
 
-  exact-def : Exact s (Anywhere s) (parseDef s) (Read s definition 64)
-  exact-def = exact-iff (def-shape .exact) (λ i ts j r. def-there r) (λ i ts j r. def-back (r .derives) (r .shallow))
+  in-rule : {i k : ℕ} → Open s i → Word s word-rule (i + 1) → Deep s rule 64 (i + 1 + 1) k → Deep s definition 64 i k
+  in-rule o w (inside b n) = inside (b-rule o w b) n
+
+  def-deep : {i k : ℕ} → def-shape .Deep i k → Deep s definition 64 i k
+  unfolding parseDef restDef otherDef parseEtor etorHead
+  def-deep (if-not _ (if-not _ (if-not _ (if-not _ (if-so v (after (up (token o) w) d)))))) = in-rule o w d
+  def-deep (if-not _ (if-not _ (if-not _ (if-not _ (if-not _ (if-so v (after (up (token o) w) (after (up (then (then (token q) (token h)) ns) c) n)))))))) =
+      inside (b-extractor o w (b-template q h (ns .derives) c)) n
+
+  exact-def : Exact s (Deep s definition 64) (parseDef s) (Read s definition 64)
+  exact-def = exact-to (λ i k x. def-deep x) (exact-iff (def-shape .reads .exact) (λ i ts j r. def-there r) (λ i ts j r. def-back (r .derives) (r .shallow)))
 
   -- ---- the whole list
 
@@ -267,10 +278,20 @@ module _ (s : Input) where
   defs-back k (cons {t = t} {ts = ts} p ps) h e =
       let z = deepest-⧺ t ts in next (not-end p) (record { derives = p; shallow = omega arith }) (defs-back (k + count t) ps (omega arith) e)
 
-  pub exact-defs : Exact s (Anywhere s) (parseDefs s) Whole
+  past-def : {i j k : ℕ} {ts : Trees} → Gram s definition i j ts → Deep s (list definition) 64 j k → Deep s (list definition) 64 i k
+  past-def p (inside (b-definitions ps b) n) = inside (b-definitions (cons p ps) b) n
+
+  first-def : {i k : ℕ} → Deep s definition 64 i k → Deep s (list definition) 64 i k
+  first-def (inside b n) = inside (b-definitions empty b) n
+
+  defs-deep : {c i k : ℕ} → Among (λ i. size s ≤ i) (λ _. Read s definition 64) (Deep s definition 64) c i k → Deep s (list definition) 64 i k
+  defs-deep (in-item n x) = first-def x
+  defs-deep (past-item n r y) = past-def (r .derives) (defs-deep y)
+
+  pub exact-defs : Exact s (Deep s (list definition) 64) (parseDefs s) Whole
   unfolding parseDefs least
   exact-defs =
-      exact-iff (exact-to (λ i k y. in-some y) (exact-many (size s) end-tests exact-def (λ i ts j r. item-on refl (r .derives))))
+      exact-iff (exact-to (λ i k y. defs-deep y) (exact-many (size s) end-tests exact-def (λ i ts j r. item-on refl (r .derives))))
       (λ i ts j r. defs-there r) (λ i ts j r. defs-back 0 (r .derives) (r .shallow) (r .whole))
 
   def-within : {i j : ℕ} {ts : Trees} → Gram s definition i j ts → j ≤ size s

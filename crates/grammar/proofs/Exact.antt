@@ -91,18 +91,11 @@ pub data Many (P : ℕ → Type 0) (R : ℕ → Rel) : ℕ → ℕ → Trees →
 
 -- ---- where the depth is met
 
--- at these tokens, wherever the reader starts
-abbrev pub Always : (ℕ → Type 0) → Reach
-Always C i = C
-
 -- nowhere
-pub data None : ℕ → Type 0 where
+pub data Nowhere (i : ℕ) : ℕ → Type 0 where
 
-pub no-token : {k : ℕ} → None k → ⊥
-no-token = elim [ ]
-
-abbrev pub Nowhere : Reach
-Nowhere = Always None
+pub nowhere : {i k : ℕ} → Nowhere i k → ⊥
+nowhere = elim [ ]
 
 -- in what is read after R
 pub data After (R : Rel) (D : Reach) (i k : ℕ) : Type 0 where
@@ -121,7 +114,7 @@ pub data Where (P : ℕ → Type 0) (D E : Reach) (i k : ℕ) : Type 0 where
 -- in an item of R, one after another, where P does not hold
 pub data Among (P : ℕ → Type 0) (R : ℕ → Rel) (D : Reach) : ℕ → ℕ → ℕ → Type 0 where
   in-item : {c i k : ℕ} → (P i → ⊥) → D i k → Among P R D c i k
-  past-item : {c i j k : ℕ} {ts : Trees} → R c i ts j → Among P R D (c + count ts) j k → Among P R D c i k
+  past-item : {c i j k : ℕ} {ts : Trees} → (P i → ⊥) → R c i ts j → Among P R D (c + count ts) j k → Among P R D c i k
 
 -- ---- outcomes
 
@@ -245,7 +238,7 @@ exact-up {s} {D} {f} {g} {R} {P} r q = exact-iff (exact-to in-first (exact-then 
   where
     in-first : (i k : ℕ) → Either D (After R Nowhere) i k → D i k
     in-first i k (first x) = x
-    in-first i k (second (after x y)) = absurd (no-token y)
+    in-first i k (second (after x y)) = absurd (nowhere y)
 
     on : (i : ℕ) (ts : Trees) (j : ℕ) → Then R (One P (λ _. ∅)) i ts j → Up R P i ts j
     on i ts j (then {us = us} x (token h)) = rw (⧺-none us) (up x h)
@@ -360,15 +353,15 @@ module _ {s : Input} {D : Reach} {stop : ℕ → Bool} {sub : ℕ → Reader} {P
   abbrev MoreGround : ℕ → ℕ → ℕ → Type 0
   MoreGround f k i = (us : Trees) (m : ℕ) (e : Refusal) → R k i us m → itemsFrom stop sub f (k + count us) m ≡ refuse e → Ground s (Among P R D (k + count us) m) e
 
-  after-ground : (f k i : ℕ) {e : Refusal} (us : Trees) (m : ℕ) → R k i us m → (o : Outcome) → itemsFrom stop sub f (k + count us) m ≡ o → before us o ≡ refuse e → MoreGround f k i
+  after-ground : (f k i : ℕ) {e : Refusal} (us : Trees) (m : ℕ) → (P i → ⊥) → R k i us m → (o : Outcome) → itemsFrom stop sub f (k + count us) m ≡ o → before us o ≡ refuse e → MoreGround f k i
       → Ground s (Among P R D k i) e
   unfolding before
-  after-ground f k i us m x (accept vs l) p z more = absurd (no-refusal z)
-  after-ground f k i us m x (refuse d) p z more = same-ground z (ground-to (λ _ y. past-item x y) (more us m d x p))
+  after-ground f k i us m q x (accept vs l) p z more = absurd (no-refusal z)
+  after-ground f k i us m q x (refuse d) p z more = same-ground z (ground-to (λ _ y. past-item q x y) (more us m d x p))
 
   first-ground : (f k i : ℕ) {e : Refusal} → (P i → ⊥) → (o : Outcome) → sub k i ≡ o → thenAt k o (itemsFrom stop sub f) ≡ refuse e → MoreGround f k i → Ground s (Among P R D k i) e
   unfolding thenAt
-  first-ground f k i q (accept us m) p z more = after-ground f k i us m (exact k .sound i p) (itemsFrom stop sub f (k + count us) m) refl z more
+  first-ground f k i q (accept us m) p z more = after-ground f k i us m q (exact k .sound i p) (itemsFrom stop sub f (k + count us) m) refl z more
   first-ground f k i q (refuse d) p z more = same-ground z (ground-to (λ _ y. in-item q y) (exact k .ground i d p))
 
   turn-ground : (f k i : ℕ) {e : Refusal} (b : Bool) → stop i ≡ b → choose b (λ _. accept ∅ i) (λ _. thenAt k (sub k i) (itemsFrom stop sub f)) ≡ refuse e → MoreGround f k i

@@ -5,10 +5,9 @@ use mathlib.Core.Path.{_≡_, refl, subst}
 use mathlib.Core.List.{List}
 use mathlib.Core.Logic.{_↔_}
 use mathlib.Core.Bool.{Bool, true, false}
-use lib.ListN.{length}
 use lib.Dec.{ltb}
 use borrow.Author.Tests.{ltb-true, ltb-false}
-use Rattle.trees.specs.Tree.{Trees, recordsAll}
+use Rattle.trees.specs.Tree.{Trees}
 use Rattle.records.specs.Result as result
 use Rattle.records.specs.Result.{refusalOf}
 use Rattle.records.proofs.ResultLaws.{refused-apart}

@@ -12,8 +12,8 @@ use Rattle.exprs.specs.Expr.{constInt, parseLetdef, letInside, parseExprInnerPa
 use Rattle.grammar.specs.Grammar.{expression, letdef, list, Gram, e-integer, e-constant, e-true, e-false, e-var, e-let, e-term, l-def}
 use Rattle.grammar.specs.Depth.{deepest}
 use Rattle.grammar.specs.Nesting.{Nested, here, inward, in-letdef, in-let, in-expression}
-use Rattle.grammar.proofs.Exact.{Reach, Exact, deep, token, then, up, over, holds, fails, After, after, first, second, if-so, if-not, exact-iff, exact-to, exact-refuseAt}
-use Rattle.grammar.proofs.Known.{Inner, inner, known, refuses, leaves, quiet, _⊳⊳_, _⊳↓_, _⊳⇊_, _⊳·_, parents, nexts, nexts↓, seconds↓, bottom, Anywhere}
+use Rattle.grammar.proofs.Exact.{Exact, deep, token, then, up, over, holds, fails, after, first, second, if-so, if-not, exact-iff, exact-to, exact-refuseAt}
+use Rattle.grammar.proofs.Known.{Inner, inner, known, refuses, leaves, quiet, _⊳⊳_, _⊳↓_, _⊳⇊_, _⊳·_, parents, nexts, nexts↓, seconds↓}
 use Rattle.grammar.proofs.Lexemes.{other, opens, symbols, integers, words, dollars, one-word, no-dollar-word, lparen, rparen, word, ident, constant}
 use Rattle.grammar.proofs.Laws.{least, deepest-⧺}
 use Rattle.grammar.proofs.Rows.{Read, Shut, InRow, in-row, exact-row-in}
@@ -101,7 +101,3 @@ exact-expr s zero = exact-iff (exact-refuseAt s 8 (λ i. deep i here refl refl))
 exact-expr s (suc d) =
     let ih = exact-expr s d in
     exact-to (λ i k x. inside s d ih x) (exact-iff (shape s d ih .reads .exact) (λ i ts j r. there s d ih r) (λ i ts j r. back s d ih (r .derives) (r .shallow)))
-
--- an expression of a definition
-pub whole-expr : (s : Input) → Exact s (Anywhere s) (parseExpr s 64) (Read s expression 64)
-whole-expr s = exact-to (λ i k x. bottom x) (exact-expr s 64)

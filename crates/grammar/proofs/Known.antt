@@ -7,9 +7,7 @@ use Rattle.trees.specs.declared.Head.{Head}
 use Rattle.tokens.specs.declared.Token.{Token}
 use Rattle.tokens.specs.Input.{Input, peek, posAt}
 use Rattle.steps.specs.Outcome.{Reader, _⊳_, parent, flagged, bare, leaf, nothing, refuseAt, refuseAfter, ifNext, ifSecond}
-use Rattle.grammar.specs.Grammar.{Part}
-use Rattle.grammar.specs.Nesting.{Nested}
-use Rattle.grammar.proofs.Exact.{Rel, Reach, Exact, Judges, plain, Never, Nothing, One, Any, Then, Up, Over, If, Always, no-token, Nowhere, After, after, Either, first, second, Where, if-so, if-not, Among, in-item, past-item, exact-to, exact-refuseAt, exact-refuseAfter, exact-nothing, exact-leaf, exact-then, exact-up, exact-parent, exact-flagged, exact-bare, exact-next, exact-second}
+use Rattle.grammar.proofs.Exact.{Rel, Reach, Exact, Judges, plain, Never, Nothing, One, Any, Then, Up, Over, If, Nowhere, nowhere, After, after, Either, first, second, Where, if-so, if-not, exact-to, exact-refuseAt, exact-refuseAfter, exact-nothing, exact-leaf, exact-then, exact-up, exact-parent, exact-flagged, exact-bare, exact-next, exact-second}
 
 pub record Known (s : Input) (D : Reach) (f : Reader) : Type 1 where
   pub Means : Rel
@@ -44,9 +42,9 @@ flags s kind by r = record { Means = Over (λ i. head kind (by i) (posAt s i) 0 
 abbrev pub bares : (kind : ℕ) {s : Input} {D : Reach} {f : Reader} → Known s D f → Known s D (bare kind f)
 bares kind r = record { Means = Over (λ i. head kind 0 0 0 0) (r .Means); exact = exact-bare kind (r .exact) }
 
--- ---- inside a pattern or an expression: where the depth is met goes by where the reader starts
+-- ---- readers that may meet the depth
 
--- such a reader, and where it meets the depth
+-- such a reader, and where it meets it
 pub record Inner (s : Input) (f : Reader) : Type 1 where
   pub Deep : Reach
   pub reads : Known s Deep f
@@ -54,12 +52,12 @@ pub record Inner (s : Input) (f : Reader) : Type 1 where
 abbrev pub inner : {s : Input} {D : Reach} {f : Reader} → Known s D f → Inner s f
 inner {D = D} r = record { Deep = D; reads = r }
 
--- one that does not meet it
+-- one that does not
 abbrev pub quiet : {s : Input} {f : Reader} → Known s Nowhere f → Known s Nowhere f
 quiet r = r
 
 pub in-second : {R : Rel} {E : Reach} {i k : ℕ} → Either Nowhere (After R E) i k → After R E i k
-in-second (first x) = absurd (no-token x)
+in-second (first x) = absurd (nowhere x)
 in-second (second y) = y
 
 -- one part after another, of which the second, or both, may meet the depth
@@ -77,33 +75,22 @@ nexts↓ {s} {P = P} t r q = record { Means = If P (r .Means) (q .Means); exact 
 abbrev pub seconds↓ : {s : Input} {D E : Reach} {test : Token → Bool} {f g : Reader} {P : ℕ → Type 0} → Judges s test P → Known s D f → Known s E g → Known s (Where (λ i. P (i + 1)) D E) (ifSecond s test f g)
 seconds↓ {s} {P = P} t r q = record { Means = If (λ i. P (i + 1)) (r .Means) (q .Means); exact = exact-second s t (r .exact) (q .exact) }
 
--- ---- around patterns and expressions, and in tokens: where the reader starts does not matter
+-- ---- readers that do not meet the depth
 
-pub in-both : {C : ℕ → Type 0} {R : Rel} {i k : ℕ} → Either (Always C) (After R (Always C)) i k → C k
-in-both (first x) = x
-in-both (second (after r x)) = x
+pub in-none : {R : Rel} {i k : ℕ} → Either Nowhere (After R Nowhere) i k → Nowhere i k
+in-none (first x) = x
+in-none (second (after r x)) = absurd (nowhere x)
 
-pub in-one : {C P : ℕ → Type 0} {i k : ℕ} → Where P (Always C) (Always C) i k → C k
-in-one (if-so h x) = x
-in-one (if-not n x) = x
-
-pub in-some : {C P : ℕ → Type 0} {R : ℕ → Rel} {c i k : ℕ} → Among P R (Always C) c i k → C k
-in-some (in-item n x) = x
-in-some (past-item r y) = in-some y
+pub in-neither : {P : ℕ → Type 0} {i k : ℕ} → Where P Nowhere Nowhere i k → Nowhere i k
+in-neither (if-so h x) = x
+in-neither (if-not n x) = x
 
 infixl 50 _⊳⊳_
-abbrev pub _⊳⊳_ : {s : Input} {C : ℕ → Type 0} {f g : Reader} → Known s (Always C) f → Known s (Always C) g → Known s (Always C) (f ⊳ g)
-r ⊳⊳ q = record { Means = Then (r .Means) (q .Means); exact = exact-to (λ i k x. in-both x) (exact-then (r .exact) (q .exact)) }
+abbrev pub _⊳⊳_ : {s : Input} {f g : Reader} → Known s Nowhere f → Known s Nowhere g → Known s Nowhere (f ⊳ g)
+r ⊳⊳ q = record { Means = Then (r .Means) (q .Means); exact = exact-to (λ i k x. in-none x) (exact-then (r .exact) (q .exact)) }
 
-abbrev pub nexts : {s : Input} {C : ℕ → Type 0} {test : Token → Bool} {f g : Reader} {P : ℕ → Type 0} → Judges s test P → Known s (Always C) f → Known s (Always C) g → Known s (Always C) (ifNext s test f g)
-nexts {s} {P = P} t r q = record { Means = If P (r .Means) (q .Means); exact = exact-to (λ i k x. in-one x) (exact-next s t (r .exact) (q .exact)) }
+abbrev pub nexts : {s : Input} {test : Token → Bool} {f g : Reader} {P : ℕ → Type 0} → Judges s test P → Known s Nowhere f → Known s Nowhere g → Known s Nowhere (ifNext s test f g)
+nexts {s} {P = P} t r q = record { Means = If P (r .Means) (q .Means); exact = exact-to (λ i k x. in-neither x) (exact-next s t (r .exact) (q .exact)) }
 
-abbrev pub seconds : {s : Input} {C : ℕ → Type 0} {test : Token → Bool} {f g : Reader} {P : ℕ → Type 0} → Judges s test P → Known s (Always C) f → Known s (Always C) g → Known s (Always C) (ifSecond s test f g)
-seconds {s} {P = P} t r q = record { Means = If (λ i. P (i + 1)) (r .Means) (q .Means); exact = exact-to (λ i k x. in-one x) (exact-second s t (r .exact) (q .exact)) }
-
--- around patterns and expressions the depth is met where one of depth 65 begins
-pub data Bottom (s : Input) (k : ℕ) : Type 0 where
-  bottom : {x : Part} {i : ℕ} → Nested s x 64 i k → Bottom s k
-
-abbrev pub Anywhere : Input → Reach
-Anywhere s = Always (Bottom s)
+abbrev pub seconds : {s : Input} {test : Token → Bool} {f g : Reader} {P : ℕ → Type 0} → Judges s test P → Known s Nowhere f → Known s Nowhere g → Known s Nowhere (ifSecond s test f g)
+seconds {s} {P = P} t r q = record { Means = If (λ i. P (i + 1)) (r .Means) (q .Means); exact = exact-to (λ i k x. in-neither x) (exact-second s t (r .exact) (q .exact)) }

@@ -17,7 +17,7 @@ use Rattle.grammar.specs.Grammar.{pattern, list, Gram, p-integer, p-cons
 use Rattle.grammar.specs.Depth.{deepest}
 use Rattle.grammar.specs.Nesting.{Nested, here, inward, in-bind, in-and, in-pattern}
 use Rattle.grammar.proofs.Exact.{Exact, deep, token, then, up, over, holds, fails, after, if-so, if-not, exact-iff, exact-to, exact-refuseAt}
-use Rattle.grammar.proofs.Known.{Inner, inner, known, refuses, leaves, quiet, _⊳⊳_, _⊳↓_, _⊳·_, parents, nexts↓, seconds↓, bottom, Anywhere}
+use Rattle.grammar.proofs.Known.{Inner, inner, known, refuses, leaves, quiet, _⊳⊳_, _⊳↓_, _⊳·_, parents, nexts↓, seconds↓}
 use Rattle.grammar.proofs.Lexemes.{other, opens, symbols, integers, ats, words, dollars, one-word, no-dollar-word, lparen, rparen, at-sign, word, ident, constant}
 use Rattle.grammar.proofs.Laws.{least}
 use Rattle.grammar.proofs.Rows.{Shut, InRow, in-row, exact-row-of}
@@ -136,7 +136,3 @@ exact-pattern s zero = exact-iff (exact-refuseAt s 8 (λ i. deep i here refl ref
 exact-pattern s (suc d) =
     let ih = exact-pattern s d in
     exact-to (λ i k x. inside s d ih x) (exact-iff (shape s d ih .reads .exact) (λ i ts j r. there s d ih r) (λ i ts j r. back s d ih (r .derives) (r .shallow) (r .stops)))
-
--- a pattern of a definition
-pub whole-pattern : (s : Input) → Exact s (Anywhere s) (parsePattern s 64) (Stopped s 64)
-whole-pattern s = exact-to (λ i k x. bottom x) (exact-pattern s 64)

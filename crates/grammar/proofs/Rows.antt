@@ -8,8 +8,7 @@ use Rattle.steps.specs.Outcome.{Reader, row}
 use Rattle.grammar.specs.Lexical.{Close, At}
 use Rattle.grammar.specs.Grammar.{Part, list, Gram, empty, cons}
 use Rattle.grammar.specs.Depth.{deepest}
-use Rattle.grammar.proofs.Exact.{Rel, Reach, Exact, exact-iff, exact-to, Many, done, next, Among, in-item, past-item, exact-many}
-use Rattle.grammar.proofs.Known.{Bottom, Anywhere}
+use Rattle.grammar.proofs.Exact.{Rel, Reach, Exact, exact-iff, exact-to, Many, done, next, Among, in-item, past-item, Nowhere, nowhere, exact-many}
 use Rattle.grammar.proofs.Lexemes.{closes}
 use Rattle.grammar.proofs.Laws.{least, deepest-⧺, begins, no-close, no-at, begun-there, fit}
 
@@ -56,7 +55,7 @@ module _ {s : Input} {x : Part} {D : Reach} {d : ℕ} {R : Rel} {sub : Reader} (
 
   row-deep : {c i k : ℕ} → Among (Close s) (λ _. R) D c i k → InRow s x D i k
   row-deep (in-item n y) = in-row empty n y
-  row-deep (past-item r y) = past (to _ _ _ r .derives) (row-deep y)
+  row-deep (past-item n r y) = past (to _ _ _ r .derives) (row-deep y)
 
   pub exact-row-of : Exact s (InRow s x D) (row s sub) (Shut s (list x) d)
   exact-row-of =
@@ -66,8 +65,8 @@ module _ {s : Input} {x : Part} {D : Reach} {d : ℕ} {R : Rel} {sub : Reader} (
 pub exact-row-in : {s : Input} {x : Part} {D : Reach} {d : ℕ} {sub : Reader} → least x ≡ 1 → Exact s D sub (Read s x d) → Exact s (InRow s x D) (row s sub) (Shut s (list x) d)
 exact-row-in step exact = exact-row-of step (λ i ts j r. r) (λ i ts j r n. r) exact
 
-in-rows : {s : Input} {x : Part} {i k : ℕ} → InRow s x (Anywhere s) i k → Bottom s k
-in-rows (in-row ps n y) = y
+no-row : {s : Input} {x : Part} {i k : ℕ} → InRow s x Nowhere i k → Nowhere i k
+no-row (in-row ps n y) = absurd (nowhere y)
 
-pub exact-row : {s : Input} {x : Part} {d : ℕ} {sub : Reader} → least x ≡ 1 → Exact s (Anywhere s) sub (Read s x d) → Exact s (Anywhere s) (row s sub) (Shut s (list x) d)
-exact-row step exact = exact-to (λ i k y. in-rows y) (exact-row-in step exact)
+pub exact-row : {s : Input} {x : Part} {d : ℕ} {sub : Reader} → least x ≡ 1 → Exact s Nowhere sub (Read s x d) → Exact s Nowhere (row s sub) (Shut s (list x) d)
+exact-row step exact = exact-to (λ i k y. no-row y) (exact-row-in step exact)

@@ -18,15 +18,16 @@ use Rattle.steps.specs.Outcome.{accept, refuse, refusal, many}
 use Rattle.exprs.specs.Expr.{parseIflet, parseIfletIf, parseIfletOrExpr, noIflet}
 use Rattle.parser.specs.Defs.{ruleName, isI64, rulePriority, ruleFlags, ruleParts, parseRule}
 use Rattle.grammar.specs.Lexical.{Open, At, Word, Short, not-negative, negative, Iffy, iffy-let, iffy}
-use Rattle.grammar.specs.Grammar.{RuleName, named, unnamed, RulePriority, ranked, unranked, rule, iflet, expression, list, Gram, empty, cons, i-let, i-if, r-rule}
+use Rattle.grammar.specs.Grammar.{RuleName, named, unnamed, RulePriority, ranked, unranked, rule, iflet, pattern, expression, list, Gram, empty, cons, i-let, i-if, r-rule}
 use Rattle.grammar.specs.Depth.{deepest}
-use Rattle.grammar.proofs.Exact.{Exact, Tests, none, token, then, up, over, holds, fails, Many, done, next, exact-iff, exact-to, exact-many, clash, same, Ground, plain, no-refusal, same-ground}
-use Rattle.grammar.proofs.Known.{Known, known, nothings, _⊳⊳_, _⊳·_, parents, flags, nexts, seconds, in-some, Anywhere}
+use Rattle.grammar.specs.Nesting.{b-left, b-iflet, b-right, b-let-pattern, b-let-expression, b-if, Nested, Deep, inside}
+use Rattle.grammar.proofs.Exact.{Exact, Tests, Nowhere, after, first, second, if-so, if-not, Among, in-item, past-item, none, token, then, up, over, holds, fails, Many, done, next, exact-iff, exact-to, exact-many, clash, same, Ground, plain, ground-to, no-refusal, same-ground}
+use Rattle.grammar.proofs.Known.{Known, known, nothings, _⊳⊳_, _⊳·_, parents, flags, nexts, _⊳↓_, _⊳⇊_, nexts↓, seconds↓, Inner, inner}
 use Rattle.grammar.proofs.Lexemes.{opens, symbols, integers, words, one-word, lparen, rparen, word, rule-ident}
 use Rattle.grammar.proofs.Laws.{least, deepest-⧺, begins, no-at}
 use Rattle.grammar.proofs.Rows.{Read, item-on}
-use Rattle.grammar.proofs.Pattern.{whole-pattern}
-use Rattle.grammar.proofs.Expr.{whole-expr}
+use Rattle.grammar.proofs.Pattern.{exact-pattern}
+use Rattle.grammar.proofs.Expr.{exact-expr}
 use Rattle.grammar.proofs.Options.{is-true, is-false}
 
 -- ---- the name and the priority
@@ -38,7 +39,7 @@ pub data Weighed (s : Input) (i : ℕ) : Trees → ℕ → Type 0 where
   weighed : {a f : ℕ} {ts : Trees} → RulePriority s i a ts f → Weighed s i ts a
 
 module _ (s : Input) where
-  abbrev name-shape : Known s (Anywhere s) (ruleName s)
+  abbrev name-shape : Known s Nowhere (ruleName s)
   unfolding ruleName
   name-shape = nexts (symbols s) (known (rule-ident s)) nothings
 
@@ -52,7 +53,7 @@ module _ (s : Input) where
   name-back (called (named h)) = holds (h .symbol) (token h)
   name-back (called (unnamed n)) = fails n none
 
-  exact-name : Exact s (Anywhere s) (ruleName s) (Called s)
+  exact-name : Exact s Nowhere (ruleName s) (Called s)
   exact-name = exact-iff (name-shape .exact) (λ i ts j r. name-there r) (λ i ts j r. name-back r)
 
   short-tests : (i : ℕ) → Tests (isI64 (peek s i .word1) (peek s i .word2)) (Short s i)
@@ -88,12 +89,12 @@ module _ (s : Input) where
   priority-back place i (weighed (unranked n)) = rw (is-false (integers s) n)
 
   priority-ground : (start i : ℕ) {e : Refusal} (a b : Bool)
-      → choose a (λ _. pick b (accept (node (head Priority 0 0 (peek s i .word2) 0) ∅ ▸ ∅) (i + 1)) (refuse (refusal 24 (posAt s start) (i + 1)))) (λ _. accept ∅ i) ≡ refuse e → Ground s (Anywhere s i) e
+      → choose a (λ _. pick b (accept (node (head Priority 0 0 (peek s i .word2) 0) ∅ ▸ ∅) (i + 1)) (refuse (refusal 24 (posAt s start) (i + 1)))) (λ _. accept ∅ i) ≡ refuse e → Ground s (Nowhere i) e
   priority-ground start i true true z = absurd (no-refusal z)
   priority-ground start i true false z = same-ground z (plain start (omega arith) (omega arith) refl)
   priority-ground start i false b z = absurd (no-refusal z)
 
-  exact-priority : (start : ℕ) → Exact s (Anywhere s) (rulePriority s (posAt s start)) (Weighed s)
+  exact-priority : (start : ℕ) → Exact s Nowhere (rulePriority s (posAt s start)) (Weighed s)
   unfolding rulePriority
   exact-priority start =
       record { sound = λ i e. priority-there (posAt s start) i (isInt (peek s i)) (isI64 (peek s i .word1) (peek s i .word2)) refl refl e; complete = λ i r. priority-back (posAt s start) i r; ground = λ i e z. priority-ground start i (isInt (peek s i)) (isI64 (peek s i .word1) (peek s i .word2)) z }
@@ -123,6 +124,10 @@ data Either (s : Input) (i : ℕ) (ts : Trees) (j : ℕ) : Type 0 where
   an-iflet : Read s iflet 64 i ts j → Either s i ts j
   an-expression : (Iffy s i → ⊥) → Read s expression 64 i ts j → Either s i ts j
 
+data EitherDeep (s : Input) (i k : ℕ) : Type 0 where
+  deep-iflet : Deep s iflet 64 i k → EitherDeep s i k
+  deep-expression : (Iffy s i → ⊥) → Nested s expression 64 i k → EitherDeep s i k
+
 iffy-of : {s : Input} {i j : ℕ} {ts : Trees} → Gram s iflet i j ts → Iffy s i
 iffy-of (i-let o w p e c) = iffy-let o w
 iffy-of (i-if o w e c) = iffy o w
@@ -131,6 +136,9 @@ record Iflets (s : Input) (i : ℕ) (ts : Trees) (j : ℕ) : Type 0 where
   derives : Gram s (list iflet) i j ts
   shallow : deepest ts ≤ 64
   ends : Iffy s j → ⊥
+
+data IfletsDeep (s : Input) (i k : ℕ) : Type 0 where
+  deep-iflets : {j : ℕ} {ts : Trees} → Gram s (list iflet) i j ts → Deep s iflet 64 j k → IfletsDeep s i k
 
 module _ (s : Input) where
   not-iffy : {i : ℕ} → (Word s word-if-let (i + 1) → ⊥) → (Word s word-if (i + 1) → ⊥) → Iffy s i → ⊥
@@ -154,18 +162,18 @@ module _ (s : Input) where
       go true false false p q r = record { yes = λ e. not-iffy (words s word-if-let .at (i + 1) .no q) (words s word-if .at (i + 1) .no r); no = λ e n. let z : _≡_ {A = ℕ} 0 1 = cc in omega arith }
       go false b c p q r = record { yes = λ e. not-open (opens s .at i .no p); no = λ e n. let z : _≡_ {A = ℕ} 0 1 = cc in omega arith }
 
-  abbrev either-shape : Known s (Anywhere s) (parseIfletOrExpr s)
+  abbrev either-shape : Inner s (parseIfletOrExpr s)
   unfolding parseIfletOrExpr parseIflet parseIfletIf
   either-shape =
-      nexts (opens s)
-      (seconds (words s word-if-let)
-      (known (lparen s) ⊳· word s word-if-let ⊳⊳ parents s IfLet 0 (known (whole-pattern s) ⊳⊳ known (whole-expr s)) ⊳· rparen s)
-      (seconds (words s word-if)
-      (known (lparen s) ⊳· word s word-if ⊳⊳ parents s IfLet 0 (parents s Pattern·Wildcard 0 nothings ⊳⊳ known (whole-expr s)) ⊳· rparen s)
-      (known (whole-expr s))))
-      (known (whole-expr s))
+      inner (nexts↓ (opens s)
+      (seconds↓ (words s word-if-let)
+      (known (lparen s) ⊳· word s word-if-let ⊳↓ parents s IfLet 0 (known (exact-pattern s 64) ⊳⇊ known (exact-expr s 64)) ⊳· rparen s)
+      (seconds↓ (words s word-if)
+      (known (lparen s) ⊳· word s word-if ⊳↓ parents s IfLet 0 (parents s Pattern·Wildcard 0 nothings ⊳↓ known (exact-expr s 64)) ⊳· rparen s)
+      (known (exact-expr s 64))))
+      (known (exact-expr s 64)))
 
-  either-there : {i j : ℕ} {ts : Trees} → either-shape .Means i ts j → Either s i ts j
+  either-there : {i j : ℕ} {ts : Trees} → either-shape .reads .Means i ts j → Either s i ts j
   unfolding parseIfletOrExpr parseIflet parseIfletIf deepest _⧺_
   either-there (holds k (holds v (up (then (up (token o) w) (over (then {us = p} {vs = e} x y))) c))) =
       an-iflet (record { derives = i-let o w (x .derives) (y .derives) c; shallow = omega (arith, deepest-⧺ p e, x .shallow, y .shallow) })
@@ -174,29 +182,37 @@ module _ (s : Input) where
   either-there (holds k (fails n (fails m r))) = an-expression (not-iffy n m) r
   either-there (fails n r) = an-expression (not-open n) r
 
-  iflet-back : {i j : ℕ} {ts : Trees} → Gram s iflet i j ts → deepest ts ≤ 64 → either-shape .Means i ts j
+  iflet-back : {i j : ℕ} {ts : Trees} → Gram s iflet i j ts → deepest ts ≤ 64 → either-shape .reads .Means i ts j
   unfolding parseIfletOrExpr parseIflet parseIfletIf deepest _⧺_ sameBytes least
   iflet-back (i-let {p = p} {e = u} o w x e c) m =
       let z = deepest-⧺ p u in
       holds o (holds w (up (then (up (token o) w) (over (then (record { derives = x; shallow = omega arith; stops = λ _. no-at (begins e refl) }) (record { derives = e; shallow = omega arith })))) c))
   iflet-back (i-if o w e c) m = holds o (fails (λ z. one-word w z refl) (holds w (up (then (up (token o) w) (over (then (over none) (record { derives = e; shallow = omega arith })))) c)))
 
-  expr-back : {i j : ℕ} {ts : Trees} → (Iffy s i → ⊥) → Read s expression 64 i ts j → either-shape .Means i ts j
+  expr-back : {i j : ℕ} {ts : Trees} → (Iffy s i → ⊥) → Read s expression 64 i ts j → either-shape .reads .Means i ts j
   unfolding parseIfletOrExpr parseIflet parseIfletIf
   expr-back {i} {j} {ts} n r = go (isLparen (peek s i)) (isWord (s .text) word-if-let (peek s (i + 1))) (isWord (s .text) word-if (peek s (i + 1))) refl refl refl
     where
-      go : (a b c : Bool) → isLparen (peek s i) ≡ a → isWord (s .text) word-if-let (peek s (i + 1)) ≡ b → isWord (s .text) word-if (peek s (i + 1)) ≡ c → either-shape .Means i ts j
+      go : (a b c : Bool) → isLparen (peek s i) ≡ a → isWord (s .text) word-if-let (peek s (i + 1)) ≡ b → isWord (s .text) word-if (peek s (i + 1)) ≡ c → either-shape .reads .Means i ts j
       go true true c p q w = absurd (n (iffy-let (opens s .at i .yes p) (words s word-if-let .at (i + 1) .yes q)))
       go true false true p q w = absurd (n (iffy (opens s .at i .yes p) (words s word-if .at (i + 1) .yes w)))
       go true false false p q w = holds (opens s .at i .yes p) (fails (words s word-if-let .at (i + 1) .no q) (fails (words s word-if .at (i + 1) .no w) r))
       go false b c p q w = fails (opens s .at i .no p) r
 
-  either-back : {i j : ℕ} {ts : Trees} → Either s i ts j → either-shape .Means i ts j
+  either-back : {i j : ℕ} {ts : Trees} → Either s i ts j → either-shape .reads .Means i ts j
   either-back (an-iflet r) = iflet-back (r .derives) (r .shallow)
   either-back (an-expression n r) = expr-back n r
 
-  exact-either : Exact s (Anywhere s) (parseIfletOrExpr s) (Either s)
-  exact-either = exact-iff (either-shape .exact) (λ i ts j r. either-there r) (λ i ts j r. either-back r)
+  either-deep : {i k : ℕ} → either-shape .Deep i k → EitherDeep s i k
+  unfolding parseIfletOrExpr parseIflet parseIfletIf
+  either-deep (if-so o (if-so v (after (up (token p) w) (first n)))) = deep-iflet (inside (b-let-pattern p w) n)
+  either-deep (if-so o (if-so v (after (up (token p) w) (second (after r n))))) = deep-iflet (inside (b-let-expression p w (r .derives)) n)
+  either-deep (if-so o (if-not m (if-so v (after (up (token p) w) (after (over none) n))))) = deep-iflet (inside (b-if p w) n)
+  either-deep (if-so o (if-not m (if-not l n))) = deep-expression (not-iffy m l) n
+  either-deep (if-not m n) = deep-expression (not-open m) n
+
+  exact-either : Exact s (EitherDeep s) (parseIfletOrExpr s) (Either s)
+  exact-either = exact-to (λ i k x. either-deep x) (exact-iff (either-shape .reads .exact) (λ i ts j r. either-there r) (λ i ts j r. either-back r))
 
   either-on : (i : ℕ) (ts : Trees) (j : ℕ) → Either s i ts j → (i < j) × (i < size s)
   unfolding least
@@ -215,23 +231,42 @@ module _ (s : Input) where
   iflets-back k (cons {t = t} {ts = ts} p ps) h n =
       let z = deepest-⧺ t ts in next (λ m. m (iffy-of p)) (an-iflet (record { derives = p; shallow = omega arith })) (iflets-back (k + count t) ps (omega arith) n)
 
-  exact-iflets : Exact s (Anywhere s) (many (size s) (noIflet s) (parseIfletOrExpr s)) (Iflets s)
+  past-iflet : {i j k : ℕ} {ts : Trees} → Gram s iflet i j ts → IfletsDeep s j k → IfletsDeep s i k
+  past-iflet p (deep-iflets ps x) = deep-iflets (cons p ps) x
+
+  iflets-deep : {c i k : ℕ} → Among (λ i. Iffy s i → ⊥) (λ _. Either s) (EitherDeep s) c i k → IfletsDeep s i k
+  iflets-deep (in-item n (deep-iflet x)) = deep-iflets empty x
+  iflets-deep (in-item n (deep-expression m x)) = absurd (n m)
+  iflets-deep (past-item n (an-iflet r) y) = past-iflet (r .derives) (iflets-deep y)
+  iflets-deep (past-item n (an-expression m r) y) = absurd (n m)
+
+  exact-iflets : Exact s (IfletsDeep s) (many (size s) (noIflet s) (parseIfletOrExpr s)) (Iflets s)
   exact-iflets =
-      exact-iff (exact-to (λ i k y. in-some y) (exact-many (size s) no-iflet-tests exact-either either-on))
+      exact-iff (exact-to (λ i k y. iflets-deep y) (exact-many (size s) no-iflet-tests exact-either either-on))
       (λ i ts j r. iflets-there r) (λ i ts j r. iflets-back 0 (r .derives) (r .shallow) (r .ends))
 
   -- ---- rules
 
-  abbrev parts-shape : (start : ℕ) → Known s (Anywhere s) (ruleParts s (posAt s start))
+  abbrev parts-shape : (start : ℕ) → Inner s (ruleParts s (posAt s start))
   unfolding ruleParts
-  parts-shape start = known (exact-name s) ⊳⊳ known (exact-priority s start) ⊳⊳ known (whole-pattern s) ⊳⊳ known exact-iflets ⊳⊳ known exact-either
+  parts-shape start = inner (known (exact-name s) ⊳⊳ known (exact-priority s start) ⊳↓ known (exact-pattern s 64) ⊳⇊ known exact-iflets ⊳⇊ known exact-either)
+
+  in-iflet : {i a b c j k f g : ℕ} {n q p ts : Trees} → RuleName s i a n f → RulePriority s a b q g → Gram s pattern b c p → Gram s (list iflet) c j ts → Deep s iflet 64 j k → Deep s rule 64 i k
+  in-iflet x y p ps (inside b n) = inside (b-iflet x y p ps b) n
+
+  parts-deep : {i k : ℕ} → parts-shape 0 .Deep i k → Deep s rule 64 i k
+  unfolding ruleParts
+  parts-deep (first (first (after (then (called x) (weighed y)) n))) = inside (b-left x y) n
+  parts-deep (first (second (after (then (then (called x) (weighed y)) r) (deep-iflets ps d)))) = in-iflet x y (r .derives) ps d
+  parts-deep (second (after (then (then (then (called x) (weighed y)) r) rs) (deep-iflet d))) = in-iflet x y (r .derives) (rs .derives) d
+  parts-deep (second (after (then (then (then (called x) (weighed y)) r) rs) (deep-expression m n))) = inside (b-right x y (r .derives) (rs .derives) m) n
 
   -- 24's place changes nothing in what is accepted
-  parts-anywhere : Exact s (Anywhere s) (λ i. ruleParts s (posAt s i) i) (parts-shape 0 .Means)
+  parts-anywhere : Exact s (Deep s rule 64) (λ i. ruleParts s (posAt s i) i) (parts-shape 0 .reads .Means)
   unfolding ruleParts
-  parts-anywhere = record { sound = λ i e. parts-shape i .exact .sound i e; complete = λ i r. parts-shape i .exact .complete i r; ground = λ i e z. parts-shape i .exact .ground i e z }
+  parts-anywhere = record { sound = λ i e. parts-shape i .reads .exact .sound i e; complete = λ i r. parts-shape i .reads .exact .complete i r; ground = λ i e z. ground-to (λ k x. parts-deep x) (parts-shape i .reads .exact .ground i e z) }
 
-  abbrev rule-shape : Known s (Anywhere s) (parseRule s)
+  abbrev rule-shape : Known s (Deep s rule 64) (parseRule s)
   unfolding parseRule
   rule-shape = flags s Rule (ruleFlags s) (known parts-anywhere)
 
@@ -266,5 +301,5 @@ module _ (s : Input) where
       (over (then (then (then (then (called x) (weighed y)) (record { derives = p; shallow = omega arith; stops = λ _. after-pattern ps e })) (record { derives = ps; shallow = omega arith; ends = h }))
       (an-expression h (record { derives = e; shallow = omega arith }))))
 
-  pub exact-rule : Exact s (Anywhere s) (parseRule s) (Read s rule 64)
+  pub exact-rule : Exact s (Deep s rule 64) (parseRule s) (Read s rule 64)
   exact-rule = exact-iff (rule-shape .exact) (λ i ts j r. rule-there r) (λ i ts j r. rule-back (r .derives) (r .shallow))

@@ -21,10 +21,10 @@ use Rattle.steps.specs.Keywords.{word-type, word-decl, word-attr, word-extern, 
 use Rattle.grammar.specs.Lexical.{Word}
 use Rattle.grammar.specs.Grammar.{Gram, definition, list, d-type, d-decl, d-attr, d-extern, d-extractor, d-rule, d-convert}
 use Rattle.grammar.specs.Depth.{deepest}
+use Rattle.grammar.specs.Nesting.{Deep}
 use Rattle.grammar.specs.Meaning.{GoodAt, GoodList, Derived, Accepted, Refused, Underived, too-much, cut-short, bad-token, too-deep, no-parse, no-space, Meaning, Worth, accepted, refused}
 use Rattle.steps.specs.declared.Refusal.{Refusal}
 use Rattle.grammar.proofs.Exact.{Ground, deep, plain}
-use Rattle.grammar.proofs.Known.{Bottom, bottom}
 use Rattle.grammar.proofs.Laws.{sizes-records, fit, spare, listed}
 use Rattle.grammar.proofs.Defs.{exact-defs, defs-within}
 
@@ -105,8 +105,8 @@ module _ (s : Input) (space : ℕ) where
   sized ts d false e = no-space (record { trees = ts; derived = d; longer = leb-false _ space e })
 
   -- a refusal of the parser, by its ground
-  by-ground : {e : Refusal} → Underived s → Ground s (Bottom s) e → Refused s space (e .code) (e .place)
-  by-ground u (deep k (bottom x) c p) = rw (c, p) (too-deep u x)
+  by-ground : {e : Refusal} → Underived s → Ground s (Deep s (list definition) 64 0) e → Refused s space (e .code) (e .place)
+  by-ground u (deep k x c p) = rw (c, p) (too-deep u x)
   by-ground u (plain k l h p) = rw p (no-parse k u l h)
 
   good-list : GoodList s → (o : Outcome) → parseDefs s 0 ≡ o → Meaning s space (fitted space o)

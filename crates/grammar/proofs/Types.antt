@@ -13,8 +13,8 @@ use Rattle.parser.specs.Types.{parseStructField, parseStructFields, parseTupleF
 use Rattle.grammar.specs.Lexical.{Open, Close, Symbol, Name, one, treeAt, nameAt}
 use Rattle.grammar.specs.Grammar.{typedef, typevalue, variant, fields, field, name, types, list, Gram, empty, cons, t-type, v-primitive, v-enum, v-struct, w-plain, w-fields, f-unit, f-struct, f-tuple, f-field, f-end, f-type, n-name}
 use Rattle.grammar.specs.Depth.{deepest}
-use Rattle.grammar.proofs.Exact.{Rel, Exact, One, token, none, then, up, Over, over, holds, fails, Many, done, next, exact-iff, exact-to, exact-node, exact-manyAt}
-use Rattle.grammar.proofs.Known.{Known, known, refusesAfter, nothings, _⊳⊳_, _⊳·_, parents, flags, bares, nexts, seconds, in-some, Anywhere}
+use Rattle.grammar.proofs.Exact.{Rel, Exact, One, token, none, then, up, Over, over, holds, fails, Many, done, next, Among, in-item, past-item, Nowhere, nowhere, exact-iff, exact-to, exact-node, exact-manyAt}
+use Rattle.grammar.proofs.Known.{Known, known, refusesAfter, nothings, _⊳⊳_, _⊳·_, parents, flags, bares, nexts, seconds}
 use Rattle.grammar.proofs.Lexemes.{there, other, opens, closes, symbols, words, one-word, lparen, rparen, word, ident}
 use Rattle.grammar.proofs.Laws.{least}
 use Rattle.grammar.proofs.Rows.{Read, Shut, exact-row}
@@ -29,12 +29,12 @@ module _ (s : Input) (d : ℕ) where
   name-back : {i j : ℕ} {ts : Trees} → Gram s name i j ts → One (Name s) (λ i. one (nameAt s i)) i ts j
   name-back (n-name h) = token h
 
-  pub names : Exact s (Anywhere s) (row s (parseIdent s)) (Shut s (list name) d)
+  pub names : Exact s Nowhere (row s (parseIdent s)) (Shut s (list name) d)
   unfolding least
   names = exact-row refl (exact-iff (ident s) (λ i ts j r. name-there r) (λ i ts j r. name-back (r .derives)))
 
   -- ---- fields
-  abbrev field-shape : Known s (Anywhere s) (parseStructField s)
+  abbrev field-shape : Known s Nowhere (parseStructField s)
   unfolding parseStructField
   field-shape = parents s StructField 0 (known (lparen s) ⊳⊳ known (ident s) ⊳⊳ known (ident s) ⊳· rparen s)
 
@@ -46,7 +46,7 @@ module _ (s : Input) (d : ℕ) where
   unfolding parseStructField _⧺_
   field-back (f-field o h u c) = over (up (then (then (token o) (token h)) (token u)) c)
 
-  struct-fields : Exact s (Anywhere s) (row s (parseStructField s)) (Shut s (list field) d)
+  struct-fields : Exact s Nowhere (row s (parseStructField s)) (Shut s (list field) d)
   unfolding least
   struct-fields = exact-row refl (exact-iff (field-shape .exact) (λ i ts j r. field-there r) (λ i ts j r. field-back (r .derives)))
 
@@ -54,12 +54,16 @@ module _ (s : Input) (d : ℕ) where
   abbrev TypeAt : ℕ → Rel
   TypeAt k = Over (λ i. head TupleField 0 (posAt s i) k 0) (One (Name s) (λ i. one (nameAt s i)))
 
-  exact-type-at : (k : ℕ) → Exact s (Anywhere s) (parseTupleField s k) (TypeAt k)
+  exact-type-at : (k : ℕ) → Exact s Nowhere (parseTupleField s k) (TypeAt k)
   unfolding parseTupleField
   exact-type-at k = exact-node (λ i. head TupleField 0 (posAt s i) k 0) (ident s)
 
   type-on : (k i : ℕ) (ts : Trees) (j : ℕ) → TypeAt k i ts j → (i < j) × (i < size s)
   type-on k i ts j (over (token h)) = (omega arith, there (h .symbol) (omega arith))
+
+  no-types : {c i k : ℕ} → Among (Close s) TypeAt Nowhere c i k → Nowhere i k
+  no-types (in-item n y) = y
+  no-types (past-item n r y) = absurd (nowhere (no-types y))
 
   types-there : {k i j : ℕ} {ts : Trees} → Many (Close s) TypeAt k i ts j → Shut s (types k) d i ts j
   unfolding deepest _⧺_ count
@@ -71,10 +75,10 @@ module _ (s : Input) (d : ℕ) where
   types-back f-end c = done c
   types-back (f-type h ps) c = next (λ z. other z (h .symbol) refl) (over (token h)) (types-back ps c)
 
-  tuple-fields : Exact s (Anywhere s) (manyAt (size s) (λ i. isRparen (peek s i)) (parseTupleField s) 0) (Shut s (types 0) d)
-  tuple-fields = exact-iff (exact-to (λ i k y. in-some y) (exact-manyAt (size s) (closes s .at) exact-type-at type-on 0)) (λ i ts j r. types-there r) (λ i ts j r. types-back (r .derives) (r .shuts))
+  tuple-fields : Exact s Nowhere (manyAt (size s) (λ i. isRparen (peek s i)) (parseTupleField s) 0) (Shut s (types 0) d)
+  tuple-fields = exact-iff (exact-to (λ i k y. no-types y) (exact-manyAt (size s) (closes s .at) exact-type-at type-on 0)) (λ i ts j r. types-there r) (λ i ts j r. types-back (r .derives) (r .shuts))
 
-  abbrev fields-shape : Known s (Anywhere s) (parseFields s)
+  abbrev fields-shape : Known s Nowhere (parseFields s)
   unfolding parseFields parseStructFields parseTupleFields
   fields-shape =
       nexts (closes s) (bares Fields·Unit nothings)
@@ -106,11 +110,11 @@ module _ (s : Input) (d : ℕ) where
   fields-back (f-tuple h ps) m c =
       fails (λ z. other z (h .symbol) refl) (fails (λ z. other z (h .symbol) refl) (over (record { derives = f-type h ps; shallow = omega arith; shuts = c })))
 
-  exact-fields : Exact s (Anywhere s) (parseFields s) (Shut s fields d)
+  exact-fields : Exact s Nowhere (parseFields s) (Shut s fields d)
   exact-fields = exact-iff (fields-shape .exact) (λ i ts j r. fields-there r) (λ i ts j r. fields-back (r .derives) (r .shallow) (r .shuts))
 
   -- ---- type values
-  abbrev variant-shape : Known s (Anywhere s) (parseTypeVariant s)
+  abbrev variant-shape : Known s Nowhere (parseTypeVariant s)
   unfolding parseTypeVariant
   variant-shape =
       nexts (symbols s) (parents s Variant 0 (known (ident s) ⊳⊳ bares Fields·Unit nothings))
@@ -126,11 +130,11 @@ module _ (s : Input) (d : ℕ) where
   variant-back (w-plain h) m = holds (h .symbol) (over (then (token h) (over none)))
   variant-back (w-fields o h p c) m = fails (λ z. other o z refl) (over (up (then (then (token o) (token h)) (record { derives = p; shallow = omega arith; shuts = c })) c))
 
-  variants : Exact s (Anywhere s) (row s (parseTypeVariant s)) (Shut s (list variant) d)
+  variants : Exact s Nowhere (row s (parseTypeVariant s)) (Shut s (list variant) d)
   unfolding least
   variants = exact-row refl (exact-iff (variant-shape .exact) (λ i ts j r. variant-there r) (λ i ts j r. variant-back (r .derives) (r .shallow)))
 
-  abbrev value-shape : Known s (Anywhere s) (parseTypevalue s)
+  abbrev value-shape : Known s Nowhere (parseTypevalue s)
   unfolding parseTypevalue
   value-shape =
       seconds (words s word-primitive) (parents s TypeValue·Primitive 0 (known (lparen s) ⊳· word s word-primitive ⊳⊳ known (ident s) ⊳· rparen s))
@@ -151,7 +155,7 @@ module _ (s : Input) (d : ℕ) where
   value-back (v-struct o w p c) m =
       fails (λ z. one-word w z refl) (fails (λ z. one-word w z refl) (holds w (over (up (then (up (token o) w) (record { derives = p; shallow = omega arith; shuts = c })) c))))
 
-  exact-value : Exact s (Anywhere s) (parseTypevalue s) (Read s typevalue d)
+  exact-value : Exact s Nowhere (parseTypevalue s) (Read s typevalue d)
   exact-value = exact-iff (value-shape .exact) (λ i ts j r. value-there r) (λ i ts j r. value-back (r .derives) (r .shallow))
 
   -- ---- types
@@ -160,7 +164,7 @@ module _ (s : Input) (d : ℕ) where
   value-no-symbol (v-enum o w ps c) z = other o z refl
   value-no-symbol (v-struct o w p c) z = other o z refl
 
-  abbrev type-shape : Known s (Anywhere s) (parseType s)
+  abbrev type-shape : Known s Nowhere (parseType s)
   unfolding parseType
   type-shape = flags s TypeDef (λ i. modifierFlags s (size s) 0 0 (i + 1)) (known (ident s) ⊳⊳ known (exact-modifiers s) ⊳⊳ known exact-value)
 
@@ -173,5 +177,5 @@ module _ (s : Input) (d : ℕ) where
   type-back (t-type h m p) l =
       rw (← type-flags m (value-no-symbol p)) (over (then (then (token h) (passed m (value-no-symbol p))) (record { derives = p; shallow = omega arith })))
 
-  pub exact-typedef : Exact s (Anywhere s) (parseType s) (Read s typedef d)
+  pub exact-typedef : Exact s Nowhere (parseType s) (Read s typedef d)
   exact-typedef = exact-iff (type-shape .exact) (λ i ts j r. type-there r) (λ i ts j r. type-back (r .derives) (r .shallow))

@@ -10,9 +10,9 @@ use Rattle.records.specs.Result.{refusalOf}
 use Rattle.tokens.specs.Input.{Input, Limited, posAt, size}
 use Rattle.tokens.specs.Lent.{goodToken}
 use Rattle.parser.specs.Reading.{Reading, done, stopped, number, bytes}
-use Rattle.grammar.specs.Grammar.{Part, Gram, definition, list}
+use Rattle.grammar.specs.Grammar.{Gram, definition, list}
 use Rattle.grammar.specs.Depth.{deepest}
-use Rattle.grammar.specs.Nesting.{Nested}
+use Rattle.grammar.specs.Nesting.{Deep}
 
 abbrev pub GoodAt : Input → ℕ → Type 0
 GoodAt s i = goodToken (s .tokens) (s .text) (s .end) i ≡ true
@@ -61,12 +61,12 @@ pub record TooLong (s : Input) (space : ℕ) : Type 0 where
   pub longer : space < length (recordsAll trees)
 
 -- a refusal, by its number and place: each ground where none before it holds. A refusal of the parser stands at token k, which is the end
--- where k is past the last one; it is 8 only where a pattern or an expression of depth 65 begins there
+-- where k is past the last one; it is 8 only where a pattern or an expression inside 64 others, so of depth 65, begins there
 pub data Refused (s : Input) (space : ℕ) : ℕ → ℕ → Type 0 where
   too-much : (Limited s → ⊥) → Refused s space 7 0
   cut-short : CutShort s → Refused s space 1 0
   bad-token : {k : ℕ} → FirstBad s k → Refused s space 2 k
-  too-deep : {x : Part} {i k : ℕ} → Underived s → Nested s x 64 i k → Refused s space 8 (posAt s k)
+  too-deep : {k : ℕ} → Underived s → Deep s (list definition) 64 0 k → Refused s space 8 (posAt s k)
   no-parse : {code : ℕ} (k : ℕ) → Underived s → 10 ≤ code → code ≤ 27 → Refused s space code (posAt s k)
   no-space : TooLong s space → Refused s space 6 0
 

@@ -1,13 +1,38 @@
--- How deep a token stands in a pattern or an expression, told by what stands before it: what is begun need not be finished.
+-- Where patterns and expressions begin and how deep they stand, told by what stands before them: what is begun need not be finished.
+-- Each constructor is a production of Grammar.antt up to a part of it, which is not read any more; the line above it is what is read.
 use Prim.Native.Nat.{ℕ, suc, _+_}
 use Rattle.trees.specs.Tree.{Trees}
 use Rattle.tokens.specs.Input.{Input}
-use Rattle.steps.specs.Keywords.{word-and, word-let}
-use Rattle.grammar.specs.Lexical.{Open, Close, At, Word, Name, Binder}
-use Rattle.grammar.specs.Grammar.{Part, pattern, expression, letdef, list, Gram}
+use Rattle.steps.specs.Keywords.{word-and, word-let, word-if, word-if-let, word-rule, word-extractor}
+use Rattle.grammar.specs.Lexical.{Open, Close, At, Word, Name, Binder, Iffy}
+use Rattle.grammar.specs.Grammar.{RuleName, RulePriority, Part, definition, extractor, rule, iflet, pattern, expression, letdef, name, list, Gram}
 
--- in the pattern or expression that begins at token i, a part of it that is one too begins at token k.
--- One constructor for each such part of a production, the production up to it above
+-- in the part y that begins at token i, a pattern or expression x that is inside no other begins at token k
+pub data Begins (s : Input) : Part → Part → ℕ → ℕ → Type 0 where
+  -- definition*
+  b-definitions : {x : Part} {i j k : ℕ} {ts : Trees} → Gram s (list definition) i j ts → Begins s definition x j k → Begins s (list definition) x i k
+  -- '(' 'extractor'
+  b-extractor : {x : Part} {i k : ℕ} → Open s i → Word s word-extractor (i + 1) → Begins s extractor x (i + 1 + 1) k → Begins s definition x i k
+  -- '(' 'rule'
+  b-rule : {x : Part} {i k : ℕ} → Open s i → Word s word-rule (i + 1) → Begins s rule x (i + 1 + 1) k → Begins s definition x i k
+  -- '(' NAME name* ')'
+  b-template : {i j : ℕ} {ts : Trees} → Open s i → Name s (i + 1) → Gram s (list name) (i + 1 + 1) j ts → Close s j → Begins s extractor pattern i (j + 1)
+  -- NAME? INTEGER?
+  b-left : {i a b f g : ℕ} {n q : Trees} → RuleName s i a n f → RulePriority s a b q g → Begins s rule pattern i b
+  -- NAME? INTEGER? pattern iflet*
+  b-iflet : {x : Part} {i a b c j k f g : ℕ} {n q p ts : Trees} → RuleName s i a n f → RulePriority s a b q g → Gram s pattern b c p → Gram s (list iflet) c j ts
+      → Begins s iflet x j k → Begins s rule x i k
+  -- NAME? INTEGER? pattern iflet*          and no if-let
+  b-right : {i a b c k f g : ℕ} {n q p ts : Trees} → RuleName s i a n f → RulePriority s a b q g → Gram s pattern b c p → Gram s (list iflet) c k ts
+      → (Iffy s k → ⊥) → Begins s rule expression i k
+  -- '(' 'if-let'
+  b-let-pattern : {i : ℕ} → Open s i → Word s word-if-let (i + 1) → Begins s iflet pattern i (i + 1 + 1)
+  -- '(' 'if-let' pattern
+  b-let-expression : {i k : ℕ} {p : Trees} → Open s i → Word s word-if-let (i + 1) → Gram s pattern (i + 1 + 1) k p → Begins s iflet expression i k
+  -- '(' 'if'
+  b-if : {i : ℕ} → Open s i → Word s word-if (i + 1) → Begins s iflet expression i (i + 1 + 1)
+
+-- in the pattern or expression x that begins at token i, a part of it that is one too begins at token k
 pub data Inside (s : Input) : Part → ℕ → ℕ → Type 0 where
   -- BINDER '@'
   in-bind : {i : ℕ} → Binder s i → At s (i + 1) → Inside s pattern i (i + 1 + 1)
@@ -30,3 +55,7 @@ pub data Inside (s : Input) : Part → ℕ → ℕ → Type 0 where
 pub data Nested (s : Input) (x : Part) : ℕ → ℕ → ℕ → Type 0 where
   here : {i : ℕ} → Nested s x 0 i i
   inward : {n i j k : ℕ} → Inside s x i j → Nested s x n j k → Nested s x (suc n) i k
+
+-- in the part y that begins at token i, a pattern or expression begins at token k that is inside n others
+pub data Deep (s : Input) (y : Part) (n i k : ℕ) : Type 0 where
+  inside : {x : Part} {j : ℕ} → Begins s y x i j → Nested s x n j k → Deep s y n i k
