@@ -244,7 +244,7 @@ module _ (s : Input) where
   in-rule : {i k : ℕ} → Open s i → Word s word-rule (i + 1) → Deep s rule 64 (i + 1 + 1) k → Deep s definition 64 i k
   in-rule o w (inside b n) = inside (b-rule o w b) n
 
-  def-deep : {i k : ℕ} → def-shape .Deep i k → Deep s definition 64 i k
+  def-deep : {i k : ℕ} → def-shape .Reaches i k → Deep s definition 64 i k
   unfolding parseDef restDef otherDef parseEtor etorHead
   def-deep (if-not _ (if-not _ (if-not _ (if-not _ (if-so v (after (up (token o) w) d)))))) = in-rule o w d
   def-deep (if-not _ (if-not _ (if-not _ (if-not _ (if-not _ (if-so v (after (up (token o) w) (after (up (then (then (token q) (token h)) ns) c) n)))))))) =

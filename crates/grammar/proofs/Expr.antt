@@ -45,7 +45,7 @@ module _ (s : Input) (d : ℕ) (ih : Exact s (Nested s expression d) (parseExpr 
   unfolding parseLetdef deepest _⧺_
   def-back (l-def o h u e c) m = over (up (then (then (then (token o) (token h)) (token u)) (record { derives = e; shallow = omega arith })) c)
 
-  defs : Exact s (InRow s letdef (def-shape .Deep)) (row s (parseLetdef s (parseExpr s d))) (Shut s (list letdef) d)
+  defs : Exact s (InRow s letdef (def-shape .Reaches)) (row s (parseLetdef s (parseExpr s d))) (Shut s (list letdef) d)
   unfolding least
   defs = exact-row-in refl (exact-iff (def-shape .reads .exact) (λ i ts j r. def-there r) (λ i ts j r. def-back (r .derives) (r .shallow)))
 
@@ -89,7 +89,7 @@ module _ (s : Input) (d : ℕ) (ih : Exact s (Nested s expression d) (parseExpr 
       holds o (holds w (over (then (token o) (up (then (up (then (up (token w) p) (record { derives = ds; shallow = omega arith; shuts = c })) c) (record { derives = e; shallow = omega arith })) q))))
   back (e-term o h n ps c) m = holds o (fails n (over (up (then (then (token o) (token h)) (record { derives = ps; shallow = omega arith; shuts = c })) c)))
 
-  inside : {i k : ℕ} → shape .Deep i k → Nested s expression (suc d) i k
+  inside : {i k : ℕ} → shape .Reaches i k → Nested s expression (suc d) i k
   unfolding exprIn parseExprInnerParens letInside parseLetdef
   inside (if-so o (if-so w (after (token p) (first (after (up (token v) q) (in-row ds z (after (then (then (token u) (token h)) (token y)) n))))))) = inward (in-letdef o v q ds u h y) n
   inside (if-so o (if-so w (after (token p) (second (after (up (then (up (token v) q) ds) c) n))))) = inward (in-let o v q (ds .derives) c) n

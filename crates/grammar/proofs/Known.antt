@@ -46,11 +46,11 @@ bares kind r = record { Means = Over (λ i. head kind 0 0 0 0) (r .Means); exact
 
 -- such a reader, and where it meets it
 pub record Inner (s : Input) (f : Reader) : Type 1 where
-  pub Deep : Reach
-  pub reads : Known s Deep f
+  pub Reaches : Reach
+  pub reads : Known s Reaches f
 
 abbrev pub inner : {s : Input} {D : Reach} {f : Reader} → Known s D f → Inner s f
-inner {D = D} r = record { Deep = D; reads = r }
+inner {D = D} r = record { Reaches = D; reads = r }
 
 -- one that does not
 abbrev pub quiet : {s : Input} {f : Reader} → Known s Nowhere f → Known s Nowhere f

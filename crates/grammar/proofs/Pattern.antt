@@ -123,7 +123,7 @@ module _ (s : Input) (d : ℕ) (ih : Exact s (Nested s pattern d) (parsePattern 
       fails (λ z. other o z refl) (fails (λ z. other o (z .symbol) refl) (fails (λ z. other o (z .symbol) refl) (fails (λ z. other o (z .symbol) refl) (fails (λ z. other o (z .symbol) refl)
       (fails (λ z. other o z refl) (holds o (fails n (over (up (then (then (token o) (token h)) (record { derives = ps; shallow = omega arith; shuts = c })) c)))))))))
 
-  inside : {i k : ℕ} → shape .Deep i k → Nested s pattern (suc d) i k
+  inside : {i k : ℕ} → shape .Reaches i k → Nested s pattern (suc d) i k
   unfolding patternIn compound
   inside (if-not a (if-not b (if-not c (if-not e (if-not f (if-so k (if-so t (after (up (token h) u) n)))))))) =
       inward (in-bind (record { variable = record { named = h; no-constant = b; no-true = e; no-false = f }; no-wildcard = c }) u) n

@@ -203,7 +203,7 @@ module _ (s : Input) where
   either-back (an-iflet r) = iflet-back (r .derives) (r .shallow)
   either-back (an-expression n r) = expr-back n r
 
-  either-deep : {i k : ℕ} → either-shape .Deep i k → EitherDeep s i k
+  either-deep : {i k : ℕ} → either-shape .Reaches i k → EitherDeep s i k
   unfolding parseIfletOrExpr parseIflet parseIfletIf
   either-deep (if-so o (if-so v (after (up (token p) w) (first n)))) = deep-iflet (inside (b-let-pattern p w) n)
   either-deep (if-so o (if-so v (after (up (token p) w) (second (after r n))))) = deep-iflet (inside (b-let-expression p w (r .derives)) n)
@@ -254,7 +254,7 @@ module _ (s : Input) where
   in-iflet : {i a b c j k f g : ℕ} {n q p ts : Trees} → RuleName s i a n f → RulePriority s a b q g → Gram s pattern b c p → Gram s (list iflet) c j ts → Deep s iflet 64 j k → Deep s rule 64 i k
   in-iflet x y p ps (inside b n) = inside (b-iflet x y p ps b) n
 
-  parts-deep : {i k : ℕ} → parts-shape 0 .Deep i k → Deep s rule 64 i k
+  parts-deep : {i k : ℕ} → parts-shape 0 .Reaches i k → Deep s rule 64 i k
   unfolding ruleParts
   parts-deep (first (first (after (then (called x) (weighed y)) n))) = inside (b-left x y) n
   parts-deep (first (second (after (then (then (called x) (weighed y)) r) (deep-iflets ps d)))) = in-iflet x y (r .derives) ps d
