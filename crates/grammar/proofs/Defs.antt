@@ -20,12 +20,12 @@ use Rattle.parser.specs.Defs.{declFlags, declModifiers, declNames, parseDecl, p
 use Rattle.grammar.specs.Lexical.{Open, Close, Word, one, nameAt, spelling}
 use Rattle.grammar.specs.Grammar.{Optional, rule, definition, decl, attr, attribute, extern, converter, list, Gram, empty, cons, d-type, d-decl, d-attr, d-extern, d-extractor, d-rule, d-convert, c-decl, a-attr, a-chain, a-priority, a-tag, x-constructor, x-extractor, x-const, x-template, k-convert}
 use Rattle.grammar.specs.Depth.{deepest}
-use Rattle.grammar.specs.Nesting.{b-definitions, b-extractor, b-rule, b-template, Deep, inside}
+use Rattle.grammar.specs.Nesting.{b-definitions, b-extractor, b-rule, b-template, Read, Deep, inside}
 use Rattle.grammar.proofs.Exact.{never, Exact, Tests, Nowhere, after, if-so, if-not, Among, in-item, past-item, Judges, One, token, then, up, over, holds, fails, Many, done, next, exact-iff, exact-to, exact-many, same, no-refusal}
 use Rattle.grammar.proofs.Known.{Known, known, refuses, refusesAfter, _⊳⊳_, _⊳·_, parents, flags, bares, nexts, seconds, quiet, _⊳↓_, seconds↓, Inner, inner}
 use Rattle.grammar.proofs.Lexemes.{there, other, words, one-word, lparen, rparen, word, ident, constant, exact-name, ident-within, either-ground}
 use Rattle.grammar.proofs.Laws.{least, deepest-⧺}
-use Rattle.grammar.proofs.Rows.{Read, Shut, item-on, exact-row}
+use Rattle.grammar.proofs.Rows.{Shut, item-on, no-items, one-more, exact-row}
 use Rattle.grammar.proofs.Pattern.{exact-pattern}
 use Rattle.grammar.proofs.Options.{optional-at, ate-is, flag-is, eats, exact-eat}
 use Rattle.grammar.proofs.Types.{names, exact-typedef}
@@ -278,15 +278,15 @@ module _ (s : Input) where
   defs-back k (cons {t = t} {ts = ts} p ps) h e =
       let z = deepest-⧺ t ts in next (not-end p) (record { derives = p; shallow = omega arith }) (defs-back (k + count t) ps (omega arith) e)
 
-  past-def : {i j k : ℕ} {ts : Trees} → Gram s definition i j ts → Deep s (list definition) 64 j k → Deep s (list definition) 64 i k
-  past-def p (inside (b-definitions ps b) n) = inside (b-definitions (cons p ps) b) n
+  past-def : {i j k : ℕ} {ts : Trees} → Read s definition 64 i ts j → Deep s (list definition) 64 j k → Deep s (list definition) 64 i k
+  past-def r (inside (b-definitions q b) n) = inside (b-definitions (one-more r q) b) n
 
   first-def : {i k : ℕ} → Deep s definition 64 i k → Deep s (list definition) 64 i k
-  first-def (inside b n) = inside (b-definitions empty b) n
+  first-def (inside b n) = inside (b-definitions no-items b) n
 
   defs-deep : {c i k : ℕ} → Among (λ i. size s ≤ i) (λ _. Read s definition 64) (Deep s definition 64) c i k → Deep s (list definition) 64 i k
   defs-deep (in-item n x) = first-def x
-  defs-deep (past-item n r y) = past-def (r .derives) (defs-deep y)
+  defs-deep (past-item n r y) = past-def r (defs-deep y)
 
   pub exact-defs : Exact s (Deep s (list definition) 64) (parseDefs s) Whole
   unfolding parseDefs least

@@ -21,12 +21,13 @@ use Rattle.parser.specs.Types.{parseStructField, parseStructFields, parseTupleF
 use Rattle.parser.specs.Defs.{declFlags, declModifiers, declNames, parseDecl, parseExtern, ruleName, isI64, rulePriority, ruleFlags, ruleParts, parseRule, restDef, parseDef, parseDefs}
 use Rattle.parser.specs.Reading.{done, stopped, fitted, judged, reading, number, bytes}
 use Rattle.grammar.specs.Lexical.{identifier}
-use Rattle.grammar.specs.Grammar.{named, unranked, definition, pattern, list, empty}
+use Rattle.grammar.specs.Grammar.{named, unranked, definition, pattern, list}
 use Rattle.grammar.specs.Nesting.{Begins, b-definitions, b-rule, b-left, Nested, Deep, inside}
 use Rattle.grammar.specs.Meaning.{Derived, Refused, Meaning, Worth, Exactly}
 use Rattle.grammar.specs.Examples.{accepted, tree, refused, bound}
 use Rattle.grammar.proofs.Exact.{Ground, deep, plain}
 use Rattle.grammar.proofs.Lexemes.{opens, symbols, integers, words}
+use Rattle.grammar.proofs.Rows.{no-items}
 use Rattle.grammar.proofs.Pattern.{exact-pattern}
 use Rattle.grammar.proofs.Theorem.{exact, meaning, worth}
 use Rattle.grammar.proofs.Places.{placed, one-refusal}
@@ -108,7 +109,7 @@ two-in = go (exact-pattern bound 2 .ground 3 (refusal 8 13 7) met)
 begun : Begins bound (list definition) pattern 0 3
 unfolding bound tok sym id be8 be4 wordAt halfAt sameBytes spelled _⧺_ count records recordsAll tokenAt isLparen isRparen isSymbol isInt isAt isConst isWord letter starts goesOn allGoOn identRefusal ascii goodSymbol goodValue goodWords goodToken badFrom before andThen _⊳_ nodeOf parent flagged bare leaf nothing refuseFrom refuseAfter ifNext ifSecond thenAt itemsFrom manyAt many unexpected expectAt ate eat identAt nameBy parseIdent constRefusal parseConst refusedAs compound patternIn parsePattern parseLetdef letInside parseExprInnerParens exprIn parseExpr parseIflet parseIfletIf parseIfletOrExpr noIflet parseStructField parseStructFields parseTupleField parseTupleFields parseFields parseTypeVariant parseTypevalue modifierFlags modifiersEnd parseModifiers parseType declFlags declModifiers declNames parseDecl parseExtern ruleName isI64 rulePriority ruleFlags ruleParts parseRule restDef parseDef parseDefs fitted judged reading
 begun =
-    b-definitions empty (b-rule (opens bound .at 0 .yes refl) (words bound word-rule .at 1 .yes refl)
+    b-definitions no-items (b-rule (opens bound .at 0 .yes refl) (words bound word-rule .at 1 .yes refl)
     (b-left (named (record { symbol = symbols bound .at 2 .yes refl; obeys = identifier refl refl })) (unranked (integers bound .at 3 .no refl))))
 
 pub two-around : (k : ℕ) × Deep bound (list definition) 2 0 k × (13 ≡ posAt bound k)

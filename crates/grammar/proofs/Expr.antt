@@ -11,12 +11,12 @@ use Rattle.steps.specs.Outcome.{row, plain}
 use Rattle.exprs.specs.Expr.{constInt, parseLetdef, letInside, parseExprInnerParens, exprIn, parseExpr}
 use Rattle.grammar.specs.Grammar.{expression, letdef, list, Gram, e-integer, e-constant, e-true, e-false, e-var, e-let, e-term, l-def}
 use Rattle.grammar.specs.Depth.{deepest}
-use Rattle.grammar.specs.Nesting.{Nested, here, inward, in-letdef, in-let, in-expression}
+use Rattle.grammar.specs.Nesting.{Read, Nested, here, inward, in-letdef, in-let, in-expression}
 use Rattle.grammar.proofs.Exact.{Exact, deep, token, then, up, over, holds, fails, after, first, second, if-so, if-not, exact-iff, exact-to, exact-refuseAt}
 use Rattle.grammar.proofs.Known.{Inner, inner, known, refuses, leaves, quiet, _⊳⊳_, _⊳↓_, _⊳⇊_, _⊳·_, parents, nexts, nexts↓, seconds↓}
 use Rattle.grammar.proofs.Lexemes.{other, opens, symbols, integers, words, dollars, one-word, no-dollar-word, lparen, rparen, word, ident, constant}
 use Rattle.grammar.proofs.Laws.{least, deepest-⧺}
-use Rattle.grammar.proofs.Rows.{Read, Shut, InRow, in-row, exact-row-in}
+use Rattle.grammar.proofs.Rows.{Shut, InRow, in-row, exact-row-in}
 
 level : {s : Input} {i j : ℕ} {ts : Trees} → Gram s expression i j ts → 1 ≤ deepest ts
 unfolding deepest
@@ -29,7 +29,7 @@ level (e-let o w p ds c e q) = omega arith
 level (e-term o h n ps c) = omega arith
 
 module _ (s : Input) (d : ℕ) (ih : Exact s (Nested s expression d) (parseExpr s d) (Read s expression d)) where
-  exprs : Exact s (InRow s expression (Nested s expression d)) (row s (parseExpr s d)) (Shut s (list expression) d)
+  exprs : Exact s (InRow s expression d (Nested s expression d)) (row s (parseExpr s d)) (Shut s (list expression) d)
   unfolding least
   exprs = exact-row-in refl ih
 
@@ -45,7 +45,7 @@ module _ (s : Input) (d : ℕ) (ih : Exact s (Nested s expression d) (parseExpr 
   unfolding parseLetdef deepest _⧺_
   def-back (l-def o h u e c) m = over (up (then (then (then (token o) (token h)) (token u)) (record { derives = e; shallow = omega arith })) c)
 
-  defs : Exact s (InRow s letdef (def-shape .Reaches)) (row s (parseLetdef s (parseExpr s d))) (Shut s (list letdef) d)
+  defs : Exact s (InRow s letdef d (def-shape .Reaches)) (row s (parseLetdef s (parseExpr s d))) (Shut s (list letdef) d)
   unfolding least
   defs = exact-row-in refl (exact-iff (def-shape .reads .exact) (λ i ts j r. def-there r) (λ i ts j r. def-back (r .derives) (r .shallow)))
 
@@ -92,7 +92,7 @@ module _ (s : Input) (d : ℕ) (ih : Exact s (Nested s expression d) (parseExpr 
   inside : {i k : ℕ} → shape .Reaches i k → Nested s expression (suc d) i k
   unfolding exprIn parseExprInnerParens letInside parseLetdef
   inside (if-so o (if-so w (after (token p) (first (after (up (token v) q) (in-row ds z (after (then (then (token u) (token h)) (token y)) n))))))) = inward (in-letdef o v q ds u h y) n
-  inside (if-so o (if-so w (after (token p) (second (after (up (then (up (token v) q) ds) c) n))))) = inward (in-let o v q (ds .derives) c) n
+  inside (if-so o (if-so w (after (token p) (second (after (up (then (up (token v) q) ds) c) n))))) = inward (in-let o v q (record { derives = ds .derives; shallow = ds .shallow }) c) n
   inside (if-so o (if-not m (after (then (token p) (token h)) (in-row ps z n)))) = inward (in-expression o h m ps z) n
 
 pub exact-expr : (s : Input) (d : ℕ) → Exact s (Nested s expression d) (parseExpr s d) (Read s expression d)

@@ -15,7 +15,7 @@ use Rattle.patterns.specs.Pattern.{constInt, compound, patternIn, parsePattern}
 use Rattle.grammar.specs.Lexical.{At}
 use Rattle.grammar.specs.Grammar.{pattern, list, Gram, p-integer, p-constant, p-wildcard, p-true, p-false, p-var, p-bind, p-and, p-term}
 use Rattle.grammar.specs.Depth.{deepest}
-use Rattle.grammar.specs.Nesting.{Nested, here, inward, in-bind, in-and, in-pattern}
+use Rattle.grammar.specs.Nesting.{Read, Nested, here, inward, in-bind, in-and, in-pattern}
 use Rattle.grammar.proofs.Exact.{Exact, deep, token, then, up, over, holds, fails, after, if-so, if-not, exact-iff, exact-to, exact-refuseAt}
 use Rattle.grammar.proofs.Known.{Inner, inner, known, refuses, leaves, quiet, _⊳⊳_, _⊳↓_, _⊳·_, parents, nexts↓, seconds↓}
 use Rattle.grammar.proofs.Lexemes.{other, opens, symbols, integers, ats, words, dollars, one-word, no-dollar-word, lparen, rparen, at-sign, word, ident, constant}
@@ -35,6 +35,9 @@ pub record Stopped (s : Input) (d i : ℕ) (ts : Trees) (j : ℕ) : Type 0 where
   pub derives : Gram s pattern i j ts
   pub shallow : deepest ts ≤ d
   pub stops : oneEnds ts ≡ true → At s j → ⊥
+
+pub finished : {s : Input} {d i j : ℕ} {ts : Trees} → Stopped s d i ts j → Read s pattern d i ts j
+finished r = record { derives = r .derives; shallow = r .shallow }
 
 shut : {s : Input} {j : ℕ} → false ≡ true → At s j → ⊥
 shut e a = let z : _≡_ {A = ℕ} 0 1 = cc in omega arith
@@ -56,10 +59,10 @@ level (p-and o w ps c) = omega arith
 level (p-term o h n ps c) = omega arith
 
 module _ (s : Input) (d : ℕ) (ih : Exact s (Nested s pattern d) (parsePattern s d) (Stopped s d)) where
-  patterns : Exact s (InRow s pattern (Nested s pattern d)) (row s (parsePattern s d)) (Shut s (list pattern) d)
+  patterns : Exact s (InRow s pattern d (Nested s pattern d)) (row s (parsePattern s d)) (Shut s (list pattern) d)
   unfolding least
   patterns =
-      exact-row-of refl (λ i ts j r. record { derives = r .derives; shallow = r .shallow })
+      exact-row-of refl (λ i ts j r. finished r)
       (λ i ts j r n. record { derives = r .derives; shallow = r .shallow; stops = λ _. n }) ih
 
   abbrev shape : Inner s (patternIn s (parsePattern s d))

@@ -2,29 +2,34 @@
 use Prim.Native.Nat.{ℕ, _+_, _<_, _≤_}
 use native.Mathlib.Omega.{arith}
 use mathlib.Core.Path.{_≡_}
-use Rattle.trees.specs.Tree.{Trees, count}
+use Rattle.trees.specs.Tree.{Trees, ∅, _⧺_, count}
 use Rattle.tokens.specs.Input.{Input, size}
 use Rattle.steps.specs.Outcome.{Reader, row}
 use Rattle.grammar.specs.Lexical.{Close, At}
 use Rattle.grammar.specs.Grammar.{Part, list, Gram, empty, cons}
 use Rattle.grammar.specs.Depth.{deepest}
+use Rattle.grammar.specs.Nesting.{Read}
 use Rattle.grammar.proofs.Exact.{Rel, Reach, Exact, exact-iff, exact-to, Many, done, next, Among, in-item, past-item, Nowhere, nowhere, exact-many}
 use Rattle.grammar.proofs.Lexemes.{closes}
 use Rattle.grammar.proofs.Laws.{least, deepest-⧺, begins, no-close, no-at, begun-there, fit}
 
--- a part with trees at most d deep; the same before a `)`
-pub record Read (s : Input) (x : Part) (d i : ℕ) (ts : Trees) (j : ℕ) : Type 0 where
-  pub derives : Gram s x i j ts
-  pub shallow : deepest ts ≤ d
-
+-- a part with trees at most d deep, before a `)`
 pub record Shut (s : Input) (x : Part) (d i : ℕ) (ts : Trees) (j : ℕ) : Type 0 where
   pub derives : Gram s x i j ts
   pub shallow : deepest ts ≤ d
   pub shuts : Close s j
 
 -- where the depth is met in an item, after finished ones
-pub data InRow (s : Input) (x : Part) (D : Reach) (i k : ℕ) : Type 0 where
-  in-row : {j : ℕ} {ts : Trees} → Gram s (list x) i j ts → (Close s j → ⊥) → D j k → InRow s x D i k
+pub data InRow (s : Input) (x : Part) (d : ℕ) (D : Reach) (i k : ℕ) : Type 0 where
+  in-row : {j : ℕ} {ts : Trees} → Read s (list x) d i ts j → (Close s j → ⊥) → D j k → InRow s x d D i k
+
+-- no items, and one before others
+pub no-items : {s : Input} {x : Part} {d i : ℕ} → Read s (list x) d i ∅ i
+unfolding deepest
+no-items = record { derives = empty; shallow = omega arith }
+
+pub one-more : {s : Input} {x : Part} {d i j k : ℕ} {ts us : Trees} → Read s x d i ts j → Read s (list x) d j us k → Read s (list x) d i (ts ⧺ us) k
+one-more {ts = ts} {us = us} r q = record { derives = cons (r .derives) (q .derives); shallow = omega (arith, r .shallow, q .shallow, deepest-⧺ ts us) }
 
 -- an item takes a token that is there
 pub item-on : {s : Input} {x : Part} {i j : ℕ} {ts : Trees} → least x ≡ 1 → Gram s x i j ts → (i < j) × (i < size s)
@@ -50,22 +55,22 @@ module _ {s : Input} {x : Part} {D : Reach} {d : ℕ} {R : Rel} {sub : Reader} (
       let z = deepest-⧺ t ts in
       next (no-close (begins p step)) (from _ _ _ (record { derives = p; shallow = omega arith }) (row-at step ps c)) (row-back (k + count t) ps (omega arith) c)
 
-  past : {i j k : ℕ} {ts : Trees} → Gram s x i j ts → InRow s x D j k → InRow s x D i k
-  past p (in-row ps n y) = in-row (cons p ps) n y
+  past : {i j k : ℕ} {ts : Trees} → Read s x d i ts j → InRow s x d D j k → InRow s x d D i k
+  past r (in-row q n y) = in-row (one-more r q) n y
 
-  row-deep : {c i k : ℕ} → Among (Close s) (λ _. R) D c i k → InRow s x D i k
-  row-deep (in-item n y) = in-row empty n y
-  row-deep (past-item n r y) = past (to _ _ _ r .derives) (row-deep y)
+  row-deep : {c i k : ℕ} → Among (Close s) (λ _. R) D c i k → InRow s x d D i k
+  row-deep (in-item n y) = in-row no-items n y
+  row-deep (past-item n r y) = past (to _ _ _ r) (row-deep y)
 
-  pub exact-row-of : Exact s (InRow s x D) (row s sub) (Shut s (list x) d)
+  pub exact-row-of : Exact s (InRow s x d D) (row s sub) (Shut s (list x) d)
   exact-row-of =
       exact-iff (exact-to (λ i k y. row-deep y) (exact-many (size s) (closes s .at) exact (λ i ts j r. item-on step (to i ts j r .derives))))
       (λ i ts j r. row-there r) (λ i ts j r. row-back 0 (r .derives) (r .shallow) (r .shuts))
 
-pub exact-row-in : {s : Input} {x : Part} {D : Reach} {d : ℕ} {sub : Reader} → least x ≡ 1 → Exact s D sub (Read s x d) → Exact s (InRow s x D) (row s sub) (Shut s (list x) d)
+pub exact-row-in : {s : Input} {x : Part} {D : Reach} {d : ℕ} {sub : Reader} → least x ≡ 1 → Exact s D sub (Read s x d) → Exact s (InRow s x d D) (row s sub) (Shut s (list x) d)
 exact-row-in step exact = exact-row-of step (λ i ts j r. r) (λ i ts j r n. r) exact
 
-no-row : {s : Input} {x : Part} {i k : ℕ} → InRow s x Nowhere i k → Nowhere i k
+no-row : {s : Input} {x : Part} {d i k : ℕ} → InRow s x d Nowhere i k → Nowhere i k
 no-row (in-row ps n y) = absurd (nowhere y)
 
 pub exact-row : {s : Input} {x : Part} {d : ℕ} {sub : Reader} → least x ≡ 1 → Exact s Nowhere sub (Read s x d) → Exact s Nowhere (row s sub) (Shut s (list x) d)

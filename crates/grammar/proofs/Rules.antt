@@ -20,13 +20,13 @@ use Rattle.parser.specs.Defs.{ruleName, isI64, rulePriority, ruleFlags, rulePar
 use Rattle.grammar.specs.Lexical.{Open, At, Word, Short, not-negative, negative, Iffy, iffy-let, iffy}
 use Rattle.grammar.specs.Grammar.{RuleName, named, unnamed, RulePriority, ranked, unranked, rule, iflet, pattern, expression, list, Gram, empty, cons, i-let, i-if, r-rule}
 use Rattle.grammar.specs.Depth.{deepest}
-use Rattle.grammar.specs.Nesting.{b-left, b-iflet, b-right, b-let-pattern, b-let-expression, b-if, Nested, Deep, inside}
+use Rattle.grammar.specs.Nesting.{b-left, b-iflet, b-right, b-let-pattern, b-let-expression, b-if, Read, Nested, Deep, inside}
 use Rattle.grammar.proofs.Exact.{Exact, Tests, Nowhere, after, first, second, if-so, if-not, Among, in-item, past-item, none, token, then, up, over, holds, fails, Many, done, next, exact-iff, exact-to, exact-many, clash, same, Ground, plain, ground-to, no-refusal, same-ground}
 use Rattle.grammar.proofs.Known.{Known, known, nothings, _⊳⊳_, _⊳·_, parents, flags, nexts, _⊳↓_, _⊳⇊_, nexts↓, seconds↓, Inner, inner}
 use Rattle.grammar.proofs.Lexemes.{opens, symbols, integers, words, one-word, lparen, rparen, word, rule-ident}
 use Rattle.grammar.proofs.Laws.{least, deepest-⧺, begins, no-at}
-use Rattle.grammar.proofs.Rows.{Read, item-on}
-use Rattle.grammar.proofs.Pattern.{exact-pattern}
+use Rattle.grammar.proofs.Rows.{item-on, no-items, one-more}
+use Rattle.grammar.proofs.Pattern.{finished, exact-pattern}
 use Rattle.grammar.proofs.Expr.{exact-expr}
 use Rattle.grammar.proofs.Options.{is-true, is-false}
 
@@ -138,7 +138,7 @@ record Iflets (s : Input) (i : ℕ) (ts : Trees) (j : ℕ) : Type 0 where
   ends : Iffy s j → ⊥
 
 data IfletsDeep (s : Input) (i k : ℕ) : Type 0 where
-  deep-iflets : {j : ℕ} {ts : Trees} → Gram s (list iflet) i j ts → Deep s iflet 64 j k → IfletsDeep s i k
+  deep-iflets : {j : ℕ} {ts : Trees} → Read s (list iflet) 64 i ts j → Deep s iflet 64 j k → IfletsDeep s i k
 
 module _ (s : Input) where
   not-iffy : {i : ℕ} → (Word s word-if-let (i + 1) → ⊥) → (Word s word-if (i + 1) → ⊥) → Iffy s i → ⊥
@@ -206,7 +206,7 @@ module _ (s : Input) where
   either-deep : {i k : ℕ} → either-shape .Reaches i k → EitherDeep s i k
   unfolding parseIfletOrExpr parseIflet parseIfletIf
   either-deep (if-so o (if-so v (after (up (token p) w) (first n)))) = deep-iflet (inside (b-let-pattern p w) n)
-  either-deep (if-so o (if-so v (after (up (token p) w) (second (after r n))))) = deep-iflet (inside (b-let-expression p w (r .derives)) n)
+  either-deep (if-so o (if-so v (after (up (token p) w) (second (after r n))))) = deep-iflet (inside (b-let-expression p w (finished r)) n)
   either-deep (if-so o (if-not m (if-so v (after (up (token p) w) (after (over none) n))))) = deep-iflet (inside (b-if p w) n)
   either-deep (if-so o (if-not m (if-not l n))) = deep-expression (not-iffy m l) n
   either-deep (if-not m n) = deep-expression (not-open m) n
@@ -231,13 +231,13 @@ module _ (s : Input) where
   iflets-back k (cons {t = t} {ts = ts} p ps) h n =
       let z = deepest-⧺ t ts in next (λ m. m (iffy-of p)) (an-iflet (record { derives = p; shallow = omega arith })) (iflets-back (k + count t) ps (omega arith) n)
 
-  past-iflet : {i j k : ℕ} {ts : Trees} → Gram s iflet i j ts → IfletsDeep s j k → IfletsDeep s i k
-  past-iflet p (deep-iflets ps x) = deep-iflets (cons p ps) x
+  past-iflet : {i j k : ℕ} {ts : Trees} → Read s iflet 64 i ts j → IfletsDeep s j k → IfletsDeep s i k
+  past-iflet r (deep-iflets q x) = deep-iflets (one-more r q) x
 
   iflets-deep : {c i k : ℕ} → Among (λ i. Iffy s i → ⊥) (λ _. Either s) (EitherDeep s) c i k → IfletsDeep s i k
-  iflets-deep (in-item n (deep-iflet x)) = deep-iflets empty x
+  iflets-deep (in-item n (deep-iflet x)) = deep-iflets no-items x
   iflets-deep (in-item n (deep-expression m x)) = absurd (n m)
-  iflets-deep (past-item n (an-iflet r) y) = past-iflet (r .derives) (iflets-deep y)
+  iflets-deep (past-item n (an-iflet r) y) = past-iflet r (iflets-deep y)
   iflets-deep (past-item n (an-expression m r) y) = absurd (n m)
 
   exact-iflets : Exact s (IfletsDeep s) (many (size s) (noIflet s) (parseIfletOrExpr s)) (Iflets s)
@@ -251,15 +251,15 @@ module _ (s : Input) where
   unfolding ruleParts
   parts-shape start = inner (known (exact-name s) ⊳⊳ known (exact-priority s start) ⊳↓ known (exact-pattern s 64) ⊳⇊ known exact-iflets ⊳⇊ known exact-either)
 
-  in-iflet : {i a b c j k f g : ℕ} {n q p ts : Trees} → RuleName s i a n f → RulePriority s a b q g → Gram s pattern b c p → Gram s (list iflet) c j ts → Deep s iflet 64 j k → Deep s rule 64 i k
+  in-iflet : {i a b c j k f g : ℕ} {n q p ts : Trees} → RuleName s i a n f → RulePriority s a b q g → Read s pattern 64 b p c → Read s (list iflet) 64 c ts j → Deep s iflet 64 j k → Deep s rule 64 i k
   in-iflet x y p ps (inside b n) = inside (b-iflet x y p ps b) n
 
   parts-deep : {i k : ℕ} → parts-shape 0 .Reaches i k → Deep s rule 64 i k
   unfolding ruleParts
   parts-deep (first (first (after (then (called x) (weighed y)) n))) = inside (b-left x y) n
-  parts-deep (first (second (after (then (then (called x) (weighed y)) r) (deep-iflets ps d)))) = in-iflet x y (r .derives) ps d
-  parts-deep (second (after (then (then (then (called x) (weighed y)) r) rs) (deep-iflet d))) = in-iflet x y (r .derives) (rs .derives) d
-  parts-deep (second (after (then (then (then (called x) (weighed y)) r) rs) (deep-expression m n))) = inside (b-right x y (r .derives) (rs .derives) m) n
+  parts-deep (first (second (after (then (then (called x) (weighed y)) r) (deep-iflets ps d)))) = in-iflet x y (finished r) ps d
+  parts-deep (second (after (then (then (then (called x) (weighed y)) r) rs) (deep-iflet d))) = in-iflet x y (finished r) (record { derives = rs .derives; shallow = rs .shallow }) d
+  parts-deep (second (after (then (then (then (called x) (weighed y)) r) rs) (deep-expression m n))) = inside (b-right x y (finished r) (record { derives = rs .derives; shallow = rs .shallow }) m) n
 
   -- 24's place changes nothing in what is accepted
   parts-anywhere : Exact s (Deep s rule 64) (λ i. ruleParts s (posAt s i) i) (parts-shape 0 .reads .Means)

@@ -13,11 +13,12 @@ use Rattle.parser.specs.Types.{parseStructField, parseStructFields, parseTupleF
 use Rattle.grammar.specs.Lexical.{Open, Close, Symbol, Name, one, treeAt, nameAt}
 use Rattle.grammar.specs.Grammar.{typedef, typevalue, variant, fields, field, name, types, list, Gram, empty, cons, t-type, v-primitive, v-enum, v-struct, w-plain, w-fields, f-unit, f-struct, f-tuple, f-field, f-end, f-type, n-name}
 use Rattle.grammar.specs.Depth.{deepest}
+use Rattle.grammar.specs.Nesting.{Read}
 use Rattle.grammar.proofs.Exact.{Rel, Exact, One, token, none, then, up, Over, over, holds, fails, Many, done, next, Among, in-item, past-item, Nowhere, nowhere, exact-iff, exact-to, exact-node, exact-manyAt}
 use Rattle.grammar.proofs.Known.{Known, known, refusesAfter, nothings, _⊳⊳_, _⊳·_, parents, flags, bares, nexts, seconds}
 use Rattle.grammar.proofs.Lexemes.{there, other, opens, closes, symbols, words, one-word, lparen, rparen, word, ident}
 use Rattle.grammar.proofs.Laws.{least}
-use Rattle.grammar.proofs.Rows.{Read, Shut, exact-row}
+use Rattle.grammar.proofs.Rows.{Shut, exact-row}
 use Rattle.grammar.proofs.Options.{passed, exact-modifiers, type-flags}
 
 module _ (s : Input) (d : ℕ) where

@@ -61,7 +61,7 @@ pub record TooLong (s : Input) (space : ℕ) : Type 0 where
   pub longer : space < length (recordsAll trees)
 
 -- a refusal, by its number and place: each ground where none before it holds. A refusal of the parser stands at token k, which is the end
--- where k is past the last one; it is 8 only where a pattern or an expression inside 64 others, so of depth 65, begins there
+-- where k is past the last one; it is 8 only where the first pattern or expression of depth 65, so inside 64 others, begins there
 pub data Refused (s : Input) (space : ℕ) : ℕ → ℕ → Type 0 where
   too-much : (Limited s → ⊥) → Refused s space 7 0
   cut-short : CutShort s → Refused s space 1 0
