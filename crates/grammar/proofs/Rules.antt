@@ -124,6 +124,7 @@ data Either (s : Input) (i : ℕ) (ts : Trees) (j : ℕ) : Type 0 where
   an-iflet : Read s iflet 64 i ts j → Either s i ts j
   an-expression : (Iffy s i → ⊥) → Read s expression 64 i ts j → Either s i ts j
 
+-- where the depth is met in either, and in if-lets after finished ones
 data EitherDeep (s : Input) (i k : ℕ) : Type 0 where
   deep-iflet : Deep s iflet 64 i k → EitherDeep s i k
   deep-expression : (Iffy s i → ⊥) → Nested s expression 64 i k → EitherDeep s i k
