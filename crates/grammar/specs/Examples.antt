@@ -1,4 +1,4 @@
--- Two inputs for the theorem of the grammar.
+-- Inputs for the theorems of the grammar.
 use mathlib.Core.List.{[], _∷_, _++_}
 use Rattle.trees.specs.Tree.{Trees, node, _▸_, head}
 use Rattle.trees.specs.Ast.{Rule, Pattern·Var, Pattern·Term, Expr·Var}

@@ -15,9 +15,11 @@ ghost use Rattle.openings.specs.Calls.{Left, openingOf};
 ghost use Rattle.openings.specs.Meaning.{OpeningWorth};
 
 // The records of the definitions that the tokens are, or one refusal with its place. `answer` fixes the returned number and
-// every byte of the output; `meaning` says what they are worth: an acceptance that the grammar derives the whole list as these
-// trees and no others, nested at most 64 deep, and that their records fit; a refusal that it does not, or which ground of
-// document 01 comes before.
+// every byte of the output. `meaning` says what they are worth. An acceptance: the grammar derives the whole list as these trees
+// and no others, nested at most 64 deep, and their records fit. 7, 1 and 2: this ground of document 01 holds and none before it.
+// 8 and 10 to 27: the tokens are good and nothing is derived; the place is the position of a token or the end, and it is 8 only
+// where the first pattern or expression of depth 65 begins. 6: the list is derived, and its records are more than the space.
+// `closed`: what is accepted, `isle_open` takes as a definition list.
 #[no_mangle]
 pub extern "C" fn isle_read(tokens: &[u8], text: &[u8], end: u32, out: &mut [u8]) -> u64
     ensures answer { λ r. ⌜ Answered (reading (input (now (tokens .entry)) (now (text .entry)) end) (slots (now (out .entry)))) (length (now (out .entry))) (now (out .exit)) r ⌝ }
