@@ -12,7 +12,7 @@ use borrow.Author.Tests.{lt-ltb, le-ltb}
 use Rattle.trees.specs.Choice.{pick}
 use Rattle.trees.specs.declared.Rec.{Rec}
 use Rattle.trees.specs.Tree.{Tree, Trees, node, ∅, _▸_, _⧺_, count, firsts, records, recordsAll, treesOf}
-use Rattle.trees.proofs.Laws.{treesOf-tree, recordsAll-⧺}
+use Rattle.trees.proofs.Laws.{treesOf-tree, recordsAll-one}
 use Rattle.records.specs.Slots.{slots, recAt, recs}
 use Rattle.forms.specs.Kinds.{pattern, definition}
 use Rattle.forms.specs.Forms.{isOne, isMany, fits}
@@ -44,6 +44,10 @@ unfolding treeOf treeAt treesOf
 one-tree rs x e =
     let t : treesOf rs ≡ x ▸ ∅ = ap treesOf (sym e ∙ sym (append-nil (records x))) ∙ treesOf-tree x [] in
     t ∙ rw t
+
+-- the one tree of a list is the list
+pub one-lent : (rs : List Rec) → All Placed rs → treesOf rs ≡ treeOf rs ▸ ∅ → records (treeOf rs) ≡ rs
+one-lent rs a e = sym (recordsAll-one (treeOf rs)) ∙ ap recordsAll (sym e) ∙ list-records rs a
 
 pub shaped : (text defs p : List ℕ) → isMany (length text) definition (recs defs) ≡ true → isOne (length text) pattern (recs p) ≡ true → slots defs ≤ 65536 → slots p ≤ 65536 → Shaped defs p
 shaped text defs p d e f s =

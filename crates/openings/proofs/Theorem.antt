@@ -10,36 +10,42 @@ use Rattle.trees.specs.Tree.{treesOf}
 use Rattle.records.specs.Slots.{recs}
 use Rattle.forms.specs.Kinds.{definition}
 use Rattle.forms.specs.Forms.{isOne, isMany}
-use Rattle.expansion.proofs.ListLaws.{list-named}
+use Rattle.expansion.proofs.ListLaws.{list-named, list-records}
 use Rattle.grounds.specs.Grounds.{refusal, grounds}
 use Rattle.grounds.specs.Opening.{Outcome, accept, refuse, opening}
 use Rattle.grounds.proofs.Answers as answers
 use Rattle.grounds.proofs.Accepted.{opens-accepted, store-accepted}
 use Rattle.grounds.proofs.Exactly.{passed}
-use Rattle.grounds.proofs.GroundLaws.{shaped}
+use Rattle.grounds.specs.Judging.{Shaped}
+use Rattle.grounds.proofs.GroundLaws.{one-lent, shaped}
 use Rattle.opening.specs.Answers.{spaceOf, patternSort}
 use Rattle.templating.specs.Calls.{sizes, lent}
 use Rattle.templating.proofs.CallLaws.{short}
 use Rattle.openings.specs.Calls.{stopped, openingOf, Left}
-use Rattle.openings.specs.Meaning.{definitions, pattern, called, OfKind, NoGround, Meaning, ill-sized, ill-formed, ground, store-full, output-full, accepted, OpeningWorth}
+use Rattle.openings.specs.Meaning.{definitions, pattern, called, OfKind, TreesLent, NoGround, Meaning, ill-sized, ill-formed, ground, store-full, output-full, accepted, OpeningWorth}
 
 module _ (text defs patt : List ℕ) (s o : ℕ) where
-  lists : OfKind text defs patt → Meaning text defs patt s o (opening text (definitions text defs patt) (pattern text defs patt) s o)
-  lists k = go _ (answers.answered text (definitions text defs patt) (pattern text defs patt) s o)
-    where
-      go : (c : Outcome) → answers.Answered text (definitions text defs patt) (pattern text defs patt) s o c → Meaning text defs patt s o c
-      go c (answers.Answered.refused n j r) = ground k n j r
-      go c (answers.Answered.store-full f h) = store-full k f h
-      go c (answers.Answered.output-full f h l) = output-full k f h l
-      go c (answers.Answered.accepted f h l) =
-          let w = short (length text) (length defs) (length patt) (sym (k .sized)) in
-          let q = shaped text defs patt (k .many) (k .one) (w .0) (w .1) in
-          let terms = list-named (recs defs) (q .placed) in
-          let term = (rw (q .one) at (list-named (recs patt) (q .pattern-placed))) .0 in
-          let g : grounds text (definitions text defs patt) (pattern text defs patt) ≡ _ = passed text (definitions text defs patt) (pattern text defs patt) f in
-          accepted k f h l
-          (opens-accepted text (definitions text defs patt) (pattern text defs patt) terms term g)
-          (store-accepted text (definitions text defs patt) (pattern text defs patt) terms term g)
+  module _ (k : OfKind text defs patt) where
+    in-shape : Shaped defs patt
+    in-shape = let w = short (length text) (length defs) (length patt) (sym (k .sized)) in shaped text defs patt (k .many) (k .one) (w .0) (w .1)
+
+    trees-lent : TreesLent text defs patt
+    trees-lent = record { all = list-records (recs defs) (in-shape .placed); one = one-lent (recs patt) (in-shape .pattern-placed) (in-shape .one) }
+
+    lists : Meaning text defs patt s o (opening text (definitions text defs patt) (pattern text defs patt) s o)
+    lists = go _ (answers.answered text (definitions text defs patt) (pattern text defs patt) s o)
+      where
+        go : (c : Outcome) → answers.Answered text (definitions text defs patt) (pattern text defs patt) s o c → Meaning text defs patt s o c
+        go c (answers.Answered.refused n j r) = ground k trees-lent n j r
+        go c (answers.Answered.store-full f h) = store-full k trees-lent f h
+        go c (answers.Answered.output-full f h l) = output-full k trees-lent f h l
+        go c (answers.Answered.accepted f h l) =
+            let terms = list-named (recs defs) (in-shape .placed) in
+            let term = (rw (in-shape .one) at (list-named (recs patt) (in-shape .pattern-placed))) .0 in
+            let g : grounds text (definitions text defs patt) (pattern text defs patt) ≡ _ = passed text (definitions text defs patt) (pattern text defs patt) f in
+            accepted k trees-lent f h l
+            (opens-accepted text (definitions text defs patt) (pattern text defs patt) terms term g)
+            (store-accepted text (definitions text defs patt) (pattern text defs patt) terms term g)
 
   pub meaning : Meaning text defs patt s o
       (lent stopped (sizes (length text) (length defs) (length patt)) (isMany (length text) definition (recs defs)) (isOne (length text) patternSort (recs patt))

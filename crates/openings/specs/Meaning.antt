@@ -5,7 +5,7 @@ use mathlib.Core.Bool.{true}
 use mathlib.Core.List.{List}
 use lib.ListN.{length}
 use Rattle.trees.specs.declared.Rec.{Rec}
-use Rattle.trees.specs.Tree.{Tree, Trees, records, treesOf}
+use Rattle.trees.specs.Tree.{Tree, Trees, records, recordsAll, treesOf}
 use Rattle.records.specs.Slots.{recs}
 use Rattle.forms.specs.Kinds.{definition}
 use Rattle.forms.specs.Forms.{isOne, isMany}
@@ -35,6 +35,11 @@ module _ (text defs patt : List ℕ) where
     pub many : isMany (length text) definition (recs defs) ≡ true
     pub one : isOne (length text) patternSort (recs patt) ≡ true
 
+  -- the trees are the lent records: what is said of them is said of what was lent
+  pub record TreesLent : Type 0 where
+    pub all : recordsAll definitions ≡ recs defs
+    pub one : records pattern ≡ recs patt
+
   -- no ground from 4 to 33 holds anywhere
   abbrev pub NoGround : Type 0
   NoGround = (n k : ℕ) → Refused text definitions pattern n k → ⊥
@@ -53,13 +58,13 @@ module _ (text defs patt : List ℕ) where
     -- 3
     ill-formed : sizes (length text) (length defs) (length patt) ≡ 0 → (OfKind → ⊥) → Meaning s o (refuse (refusal 3 0))
     -- 4, 8, 33, 30, 32, 31 at its place, and none before it in the order
-    ground : OfKind → (n k : ℕ) → Refused text definitions pattern n k → Meaning s o (refuse (refusal n k))
+    ground : OfKind → TreesLent → (n k : ℕ) → Refused text definitions pattern n k → Meaning s o (refuse (refusal n k))
     -- 6 at 0: all else is accepted, and the opened templates are more than the store holds
-    store-full : OfKind → NoGround → s < length templatesOpened → Meaning s o (refuse (refusal 6 0))
+    store-full : OfKind → TreesLent → NoGround → s < length templatesOpened → Meaning s o (refuse (refusal 6 0))
     -- 6 at 1: these fit, and the opened pattern is more than the output holds
-    output-full : OfKind → NoGround → length templatesOpened ≤ s → o < length patternOpened → Meaning s o (refuse (refusal 6 1))
+    output-full : OfKind → TreesLent → NoGround → length templatesOpened ≤ s → o < length patternOpened → Meaning s o (refuse (refusal 6 1))
     -- accepted: demand 3 holds of the pattern and of each template
-    accepted : OfKind → NoGround → length templatesOpened ≤ s → length patternOpened ≤ o → Opens text called pattern → StoreOpens text called
+    accepted : OfKind → TreesLent → NoGround → length templatesOpened ≤ s → length patternOpened ≤ o → Opens text called pattern → StoreOpens text called
         → Meaning s o (accept templatesOpened patternOpened)
 
 -- the number r, the store s′ and the output o′ are those of an outcome of which this holds
