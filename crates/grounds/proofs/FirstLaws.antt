@@ -13,7 +13,7 @@ use borrow.Author.Tests.{eqb-true, eqb-false, eq-eqb, ne-eqb, lt-ltb, le-ltb}
 use Rattle.trees.specs.Choice.{pick}
 use Rattle.forms.specs.Lists.{firstIs}
 use Rattle.forms.proofs.FirstLaws.{first-within, first-at, first-before}
-use Rattle.grounds.specs.Grounds.{Refusal, refusal, atPlace, firstFrom}
+use Rattle.grounds.specs.Grounds.{Refusal, refusal, _orElse_, atPlace, firstFrom}
 
 -- ---- the first v of xs
 
@@ -112,3 +112,29 @@ pub flaw-zeros : (i m : ℕ) (ns : List ℕ) → firstFrom i (replicate m 0 ++ n
 unfolding firstFrom
 flaw-zeros i zero ns = ap (λ (k : ℕ). firstFrom k ns) (sym (add-zero i))
 flaw-zeros i (suc m) ns = flaw-next i 0 (replicate m 0 ++ ns) refl ∙ flaw-zeros (suc i) m ns ∙ ap (λ (k : ℕ). firstFrom k ns) (suc-add i m ∙ sym (add-suc i m))
+
+-- one list after another
+pub flaw-append : (i : ℕ) (ns ms : List ℕ) → firstFrom i (ns ++ ms) ≡ firstFrom i ns orElse firstFrom (i + length ns) ms
+unfolding firstFrom
+flaw-append i [] ms = ap (λ (k : ℕ). firstFrom k ms) (sym (add-zero i))
+flaw-append i (n ∷ ns) ms = go (eqb n 0) (flaw-append (suc i) ns ms ∙ ap (λ (k : ℕ). firstFrom (suc i) ns orElse firstFrom k ms) (suc-add i (length ns) ∙ sym (add-suc i (length ns))))
+  where
+    go : (b : Bool) → firstFrom (suc i) (ns ++ ms) ≡ firstFrom (suc i) ns orElse firstFrom (i + suc (length ns)) ms
+        → pick b (firstFrom (suc i) (ns ++ ms)) (some (refusal n i)) ≡ pick b (firstFrom (suc i) ns) (some (refusal n i)) orElse firstFrom (i + suc (length ns)) ms
+    go true e = e
+    go false e = refl
+
+-- a refusal whose place goes on after d records
+abbrev pub shifted : ℕ → Option Refusal → Option Refusal
+shifted d none = none
+shifted d (some r) = some (refusal (r .number) (d + r .place))
+
+pub flaw-shifted : (d i : ℕ) (ns : List ℕ) → firstFrom (d + i) ns ≡ shifted d (firstFrom i ns)
+unfolding firstFrom
+flaw-shifted d i [] = refl
+flaw-shifted d i (n ∷ ns) = go (eqb n 0) (ap (λ (k : ℕ). firstFrom k ns) (sym (add-suc d i)) ∙ flaw-shifted d (suc i) ns)
+  where
+    go : (b : Bool) → firstFrom (suc (d + i)) ns ≡ shifted d (firstFrom (suc i) ns)
+        → pick b (firstFrom (suc (d + i)) ns) (some (refusal n (d + i))) ≡ shifted d (pick b (firstFrom (suc i) ns) (some (refusal n i)))
+    go true e = e
+    go false e = refl

@@ -3,19 +3,19 @@ use mathlib.Core.Path.{_≡_, refl, sym, ap, _∙_}
 use mathlib.Core.Bool.{Bool, true, false}
 use mathlib.Core.Option.{Option, none, some}
 use mathlib.Core.List.{List, [], _∷_, _++_, append-assoc, append-nil}
-use Prim.Native.Nat.{ℕ, zero, suc, _+_, _-_, _*_, _<_, _≤_}
-use native.Mathlib.Nat.{add-zero, zero-add, suc-add, add-suc}
+use Prim.Native.Nat.{ℕ, suc, _+_, _<_, _≤_}
+use native.Mathlib.Nat.{zero-add, suc-add}
 use native.Mathlib.Omega.{arith}
-use lib.Dec.{eqb, ltb}
-use lib.ListN.{length, getD, drop, length-append}
+use lib.Dec.{eqb}
+use lib.ListN.{length, drop, length-append}
 use borrow.Author.Tests.{lt-ltb, le-ltb}
 use Rattle.trees.specs.Choice.{pick}
 use Rattle.trees.specs.declared.Rec.{Rec}
-use Rattle.trees.specs.Tree.{Tree, Trees, node, ∅, _▸_, _⧺_, count, firsts, records, recordsAll, treesOf}
+use Rattle.trees.specs.Tree.{Tree, Trees, ∅, _▸_, _⧺_, count, firsts, records, recordsAll, treesOf}
 use Rattle.trees.proofs.Laws.{treesOf-tree, recordsAll-one}
-use Rattle.records.specs.Slots.{slots, recAt, recs}
+use Rattle.records.specs.Slots.{slots, recs}
 use Rattle.forms.specs.Kinds.{pattern, definition}
-use Rattle.forms.specs.Forms.{isOne, isMany, fits}
+use Rattle.forms.specs.Forms.{isOne, isMany}
 use Rattle.forms.specs.Lists.{firstIs, kinds, kindsAll, MacroArg, firstMacroArg}
 use Rattle.forms.specs.Depth.{depths, depthsAll, tooDeep, firstDeepIn}
 use Rattle.forms.proofs.Exact.{one-exact}
@@ -28,12 +28,13 @@ use Rattle.expansion.specs.Flat.{Placed, All}
 use Rattle.expansion.proofs.ListLaws.{list-records}
 use Rattle.grounds.specs.declared.Judged.{Judged}
 use Rattle.grounds.specs.declared.Judged.the-variants.{Fine, Flawed}
-use Rattle.grounds.specs.Grounds.{Refusal, refusal, _orElse_, atPlace, firstFrom, callFlaws, callFlawsAll, lent, macroArgGround, depthGround, manyGround, extractorPlaces, flaws, grounds}
+use Rattle.grounds.specs.Grounds.{Refusal, _orElse_, atPlace, firstFrom, callFlaws, callFlawsAll, listFlaws, lent, macroArgGround, depthGround, manyGround, extractorPlaces, flaws, grounds}
 use Rattle.grounds.specs.Opening.{treeOf}
-use Rattle.grounds.specs.Leaves.{ExtractorPlaced}
-use Rattle.grounds.specs.Table.{Table, Tabled}
-use Rattle.grounds.specs.Judging.{Known, CallsJudged, ListJudged, Answers, Shaped, Low, moved, FlawsJudged, Grounded}
+use Rattle.grounds.specs.Table.{Table}
+use Rattle.grounds.specs.Judging.{given, Low, Answers, Known, CallsJudged, ListJudged, moved, FlawsJudged, Tabled, Shaped, Grounded}
 use Rattle.grounds.proofs.At.{length-recs}
+use Rattle.grounds.proofs.FirstLaws.{flaw-append, shifted, flaw-shifted}
+use Rattle.grounds.proofs.Plain.{list-size}
 use Rattle.grounds.proofs.Places.{fits-placed, fits-extractors}
 use Rattle.grounds.proofs.JudgeLaws.{table-known}
 
@@ -90,25 +91,25 @@ module _ (number v : ℕ) (xs ys : List ℕ) (a b d p : ℕ) (lx : length xs ≡
   total = length-append xs ys ∙ rw (lx, ly)
 
   in-first : a < d → Answers ground (d + p) (Flawed number a)
-  unfolding Answers atPlace
+  unfolding Low atPlace
   in-first h =
       let e : firstIs v (xs ++ ys) ≡ a = first-left v xs ys (omega arith) ∙ fa in
       let l : a < d + p = omega arith in
-      (rw (e, total, lt-ltb a (d + p) l), l)
+      record { gives = rw (e, total, lt-ltb a (d + p) l); low = l }
 
   in-second : d ≤ a → b < p → Answers ground (d + p) (Flawed number (d + b))
-  unfolding Answers atPlace
+  unfolding Low atPlace
   in-second g h =
       let e : firstIs v (xs ++ ys) ≡ d + b = first-right v xs ys (omega arith) ∙ rw (lx, fb) in
       let l : d + b < d + p = omega arith in
-      (rw (e, total, lt-ltb (d + b) (d + p) l), l)
+      record { gives = rw (e, total, lt-ltb (d + b) (d + p) l); low = l }
 
   in-none : d ≤ a → p ≤ b → (n : ℕ) → Answers ground (d + p) (Fine n)
-  unfolding Answers atPlace
+  unfolding Low atPlace
   in-none g h n =
       let e : firstIs v (xs ++ ys) ≡ d + b = first-right v xs ys (omega arith) ∙ rw (lx, fb) in
       let l : d + p ≤ d + b = omega arith in
-      rw (e, total, le-ltb (d + b) (d + p) l)
+      record { gives = rw (e, total, le-ltb (d + b) (d + p) l); low = tt }
 
 kinds-⧺ : (ts us : Trees) → kindsAll (ts ⧺ us) ≡ kindsAll ts ++ kindsAll us
 unfolding kinds _⧺_
@@ -186,33 +187,61 @@ module _ (defs p : List ℕ) (s : Shaped defs p) where
 -- ---- one ground after another
 
 pub first-answers : (g h : Option Refusal) (m f k : ℕ) (j : Judged) → j ≡ Flawed f k → Answers g m j → Answers (g orElse h) m j
-unfolding Answers
 first-answers g h m f k (Fine n) e a = absurd (let z : _≡_ {A = ℕ} 0 1 = cc in omega arith)
-first-answers g h m f k (Flawed f′ k′) e a = (rw (a .0), a .1)
+first-answers g h m f k (Flawed f′ k′) e a = record { gives = ap (_orElse h) (a .gives); low = a .low }
+
+-- a fine answer gives none
+answers-none : (g : Option Refusal) (m n : ℕ) (i : Judged) → i ≡ Fine n → Answers g m i → g ≡ none
+answers-none g m n i e a = sym (a .gives) ∙ ap given e
 
 pub next-answers : (g h : Option Refusal) (m n : ℕ) (i j : Judged) → i ≡ Fine n → Answers g m i → Answers h m j → Answers (g orElse h) m j
-unfolding Answers
-next-answers g h m n i j e a b = let z : g ≡ none = none-by i e a in rw z b
-  where
-    none-by : (i : Judged) → i ≡ Fine n → Answers g m i → g ≡ none
-    none-by (Fine k) e a = a
-    none-by (Flawed f k) e a = absurd (let z : _≡_ {A = ℕ} 0 1 = cc in omega arith)
+next-answers g h m n i j e a b = rw (answers-none g m n i e a) b
+
+low-by : (m n : ℕ) (j : Judged) → m ≤ n → Low m j → Low n j
+unfolding Low
+low-by m n (Fine k) h l = tt
+low-by m n (Flawed f k) h l = omega arith
 
 -- ---- names and calls
 
 pub calls-low : (text t : List ℕ) (n earlier : ℕ) (src : List ℕ) (at trees : ℕ) (j : Judged) → slots src ≤ 65536 → CallsJudged text t n earlier src at trees j → Low 65536 j
-unfolding CallsJudged Low
-calls-low text t n earlier src at trees (Fine m) h c = tt
-calls-low text t n earlier src at trees (Flawed f k) h c = omega (arith, c .0)
+calls-low text t n earlier src at trees j h c = low-by (slots src) 65536 j h (c .low)
+
+moved-given : (j : Judged) (m d : ℕ) → given (moved j m d) ≡ shifted d (given j)
+moved-given (Fine x) m d = refl
+moved-given (Flawed f k) m d = refl
+
+moved-counts : (j : Judged) (n d m : ℕ) → moved j n d ≡ Fine m → m ≡ n
+moved-counts (Fine x) n d m e = cc
+moved-counts (Flawed f k) n d m e = absurd (let z : _≡_ {A = ℕ} 0 1 = cc in omega arith)
 
 module _ (text defs p t : List ℕ) (n : ℕ) (s : Shaped defs p) (b : Table text defs t n) where
   abbrev E : Extractors
   E = extractors text (treesOf (recs defs))
 
+  abbrev of-list : List ℕ
+  of-list = listFlaws text E [] (treesOf (recs defs))
+
+  abbrev of-pattern : List ℕ
+  of-pattern = callFlaws text E E (treeOf (recs p))
+
+  -- the list's, and else the pattern's
+  flaws-are : firstFrom 0 (flaws text (treesOf (recs defs)) (treeOf (recs p))) ≡ firstFrom 0 of-list orElse firstFrom (slots defs + 0) of-pattern
+  unfolding flaws
+  flaws-are =
+      let e : 0 + length of-list ≡ slots defs + 0 = omega (arith, list-size text E (treesOf (recs defs)) [], size defs p s defs (s .placed)) in
+      flaw-append 0 of-list of-pattern ∙ ap (λ (m : ℕ). firstFrom 0 of-list orElse firstFrom m of-pattern) e
+
   pub flaws-in-list : (j : Judged) (f k : ℕ) → j ≡ Flawed f k → ListJudged text defs j → FlawsJudged text defs p n j
-  unfolding ListJudged FlawsJudged flaws
   flaws-in-list (Fine m) f k e l = absurd (let z : _≡_ {A = ℕ} 0 1 = cc in omega arith)
-  flaws-in-list (Flawed f′ k′) f k e l = (l .1 (callFlaws text E E (treeOf (recs p))), omega (arith, l .0))
+  flaws-in-list (Flawed f′ k′) f k e l =
+      record {
+        answers = record {
+          gives = ap (_orElse firstFrom (slots defs + 0) of-pattern) (l .gives) ∙ sym flaws-are;
+          low = low-by (slots defs) (slots defs + slots p) (Flawed f′ k′) (omega arith) (l .low);
+        };
+        counts = λ m q. absurd (let z : _≡_ {A = ℕ} 0 1 = cc in omega arith);
+      }
 
   whole-known : Known text t n n
   whole-known = table-known text defs t n n E [] (s .placed) b (sym (append-nil E)) (b .size)
@@ -221,19 +250,32 @@ module _ (text defs p t : List ℕ) (n : ℕ) (s : Shaped defs p) (b : Table tex
   unfolding firsts
   pattern-calls = rw (s .one)
 
-  row-is : firstFrom (slots defs + 0) (callFlawsAll text (E ++ []) E (firsts 1 (treesOf (drop 0 (recs p)))) ++ []) ≡ firstFrom (slots defs) (callFlaws text E E (treeOf (recs p)))
+  row-is : callFlawsAll text (E ++ []) E (firsts 1 (treesOf (drop 0 (recs p)))) ≡ of-pattern
   unfolding callFlaws
   row-is =
-      ap (λ (i : ℕ). firstFrom i (callFlawsAll text (E ++ []) E (firsts 1 (treesOf (drop 0 (recs p)))) ++ [])) (add-zero (slots defs))
-      ∙ ap (λ (D : Extractors). firstFrom (slots defs) (callFlawsAll text D E (firsts 1 (treesOf (drop 0 (recs p)))) ++ [])) (append-nil E)
-      ∙ ap (λ (ts : Trees). firstFrom (slots defs) (callFlawsAll text E E ts ++ [])) pattern-calls
-      ∙ ap (firstFrom (slots defs)) (append-nil (callFlaws text E E (treeOf (recs p)) ++ []) ∙ append-nil (callFlaws text E E (treeOf (recs p))))
+      ap (λ (D : Extractors). callFlawsAll text D E (firsts 1 (treesOf (drop 0 (recs p))))) (append-nil E)
+      ∙ ap (callFlawsAll text E E) pattern-calls ∙ append-nil of-pattern
+
+  moved-under : (j : Judged) (m : ℕ) → Low (slots p) j → Low (slots defs + slots p) (moved j m (slots defs))
+  unfolding Low
+  moved-under (Fine x) m l = tt
+  moved-under (Flawed f k) m l = omega arith
 
   pub flaws-in-pattern : (i j : Judged) (m d : ℕ) → i ≡ Fine m → d ≡ slots defs → ListJudged text defs i → CallsJudged text t n n p 0 1 j → FlawsJudged text defs p n (moved j n d)
-  unfolding ListJudged CallsJudged FlawsJudged flaws firstFrom whole-known table-known
-  flaws-in-pattern (Flawed f k) j m d e q l c = absurd (let z : _≡_ {A = ℕ} 0 1 = cc in omega arith)
-  flaws-in-pattern (Fine m′) (Fine next) m d e q l c = (l (callFlaws text E E (treeOf (recs p))) ∙ sym row-is ∙ c .1 whole-known (slots defs) [], refl)
-  flaws-in-pattern (Fine m′) (Flawed f k) m d e q l c = (l (callFlaws text E E (treeOf (recs p))) ∙ sym row-is ∙ c .1 whole-known (slots defs) [] ∙ rw q, omega (arith, c .0))
+  unfolding whole-known table-known
+  flaws-in-pattern i j m d e q l c =
+      rw q (record {
+        answers = record {
+          gives =
+              moved-given j n (slots defs) ∙ ap (shifted (slots defs)) (c .gives whole-known ∙ ap (firstFrom 0) row-is)
+              ∙ sym (flaws-are ∙ rw (answers-none (firstFrom 0 of-list) (slots defs) m i e l) (flaw-shifted (slots defs) 0 of-pattern));
+          low = moved-under j n (c .low);
+        };
+        counts = moved-counts j n (slots defs);
+      })
+
+flawed-fine : (j : Judged) (f k n : ℕ) → j ≡ Flawed f k → j ≡ Fine n → ⊥
+flawed-fine j f k n e d = let z : _≡_ {A = ℕ} 0 1 = cc in omega arith
 
 -- ---- all grounds
 
@@ -254,32 +296,30 @@ module _ (text defs p t : List ℕ) where
 
   -- 4 or 8
   pub grounds-lists : (i : Judged) (f k : ℕ) → i ≡ Flawed f k → Answers lists (slots defs + slots p) i → Grounded text defs p t i
-  unfolding Answers Grounded
-  grounds-lists (Fine n) f k e a = absurd (let z : _≡_ {A = ℕ} 0 1 = cc in omega arith)
-  grounds-lists (Flawed f′ k′) f k e a = (grounds-are ∙ rw (a .0), a .1)
-
-  lists-none : (i : Judged) (n : ℕ) → i ≡ Fine n → Answers lists (slots defs + slots p) i → lists ≡ none
-  unfolding Answers
-  lists-none (Fine k) n e a = a
-  lists-none (Flawed f k) n e a = absurd (let z : _≡_ {A = ℕ} 0 1 = cc in omega arith)
+  grounds-lists i f k e a =
+      record {
+        answers = rw grounds-are (first-answers lists (manyGround (extractorPlaces 0 (treesOf (recs defs))) orElse names) (slots defs + slots p) f k i e a);
+        table = λ n q. absurd (flawed-fine i f k n e q);
+      }
 
   -- 33
   pub grounds-many : (i j : Judged) (n f k : ℕ) → i ≡ Fine n → j ≡ Flawed f k → Answers lists (slots defs + slots p) i → Tabled defs t j → Grounded text defs p t j
-  unfolding Tabled Grounded
-  grounds-many i (Fine m) n f k e d a b = absurd (let z : _≡_ {A = ℕ} 0 1 = cc in omega arith)
-  grounds-many i (Flawed f′ k′) n f k e d a b = let z = lists-none i n e a in (grounds-are ∙ rw (z, b .0), omega (arith, b .1))
+  grounds-many i j n f k e d a b =
+      record {
+        answers = rw grounds-are
+            (next-answers lists (manyGround (extractorPlaces 0 (treesOf (recs defs))) orElse names) (slots defs + slots p) n i j e a
+            (first-answers (manyGround (extractorPlaces 0 (treesOf (recs defs)))) names (slots defs + slots p) f k j d
+            (record { gives = b .answers .gives; low = low-by (slots defs) (slots defs + slots p) j (omega arith) (b .answers .low) })));
+        table = λ m q. absurd (flawed-fine j f k m d q);
+      }
 
   -- 30, 31, 32, or nothing
   pub grounds-names : (i j r : Judged) (m n : ℕ) → i ≡ Fine m → j ≡ Fine n → Answers lists (slots defs + slots p) i → Tabled defs t j → FlawsJudged text defs p n r → Grounded text defs p t r
-  unfolding Tabled Grounded FlawsJudged
-  grounds-names i j (Fine x) m n e d a b c =
-      let z = lists-none i m e a in
-      let q = rw d at b in
-      (grounds-are ∙ rw (z, q .1, c .0), rw (c .1) (q .0 text))
-  grounds-names i j (Flawed f k) m n e d a b c =
-      let z = lists-none i m e a in
-      let q = rw d at b in
-      (grounds-are ∙ rw (z, q .1, c .0), c .1)
+  grounds-names i j r m n e d a b c =
+      record {
+        answers = rw (grounds-are, answers-none lists (slots defs + slots p) m i e a, answers-none (manyGround (extractorPlaces 0 (treesOf (recs defs)))) (slots defs) n j d (b .answers)) (c .answers);
+        table = λ x q. rw (c .counts x q) (b .table n d text);
+      }
 
 pub pattern-there : (defs p : List ℕ) → Shaped defs p → 1 ≤ count (treesOf (drop 0 (recs p)))
 unfolding count
@@ -299,5 +339,4 @@ pub flaws-by : (text defs p : List ℕ) (n : ℕ) (j r : Judged) → r ≡ j →
 flaws-by text defs p n j r e f = rw e f
 
 pub table-made : (text defs t : List ℕ) (j : Judged) (n : ℕ) → j ≡ Fine n → Tabled defs t j → Table text defs t n
-unfolding Tabled
-table-made text defs t j n e b = (rw e at b) .0 text
+table-made text defs t j n e b = b .table n e text

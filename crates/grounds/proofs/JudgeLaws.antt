@@ -3,21 +3,19 @@ use mathlib.Core.Path.{_≡_, refl, sym, ap, _∙_}
 use mathlib.Core.Bool.{Bool, true, false}
 use mathlib.Core.Option.{Option, none, some}
 use mathlib.Core.List.{List, [], _∷_, _++_, append-assoc, append-nil}
-use Prim.Native.Nat.{ℕ, zero, suc, _+_, _-_, _*_, _<_, _≤_}
-use native.Mathlib.Nat.{add-zero, zero-add, suc-add, add-suc, add-assoc, add-comm}
+use Prim.Native.Nat.{ℕ, suc, _+_, _-_, _<_, _≤_}
 use native.Mathlib.Numerals.{add-one}
 use native.Mathlib.Decide.{decLt}
 use native.Mathlib.Omega.{arith}
-use lib.Dec.{eqb, ltb}
-use lib.ListN.{length, getD, drop, length-append, length-drop}
+use lib.Dec.{eqb}
+use lib.ListN.{length, drop, length-append, length-drop}
 use borrow.Author.Tests.{eqb-true, eqb-false, eq-eqb, ne-eqb, lt-ltb, le-ltb}
 use Rattle.trees.specs.Choice.{pick}
 use Rattle.trees.specs.declared.Rec.{Rec}
-use Rattle.trees.specs.Tree.{Tree, Trees, node, ∅, _▸_, _⧺_, count, firsts, others, headOf, records, treesOf}
+use Rattle.trees.specs.Tree.{Trees, node, ∅, _▸_, _⧺_, count, firsts, others, headOf, records, recordsAll, treesOf}
+use Rattle.trees.proofs.Laws.{size-node}
 use Rattle.trees.specs.Names.{spelled}
-use Rattle.words.specs.Bytes.{sameBytes}
 use Rattle.records.specs.Slots.{slots, recAt, recs}
-use Rattle.forms.specs.Lists.{left, skip}
 use Rattle.expansion.specs.Nodes.{rest, treeAt, isTerm, isExtractor}
 use Rattle.expansion.specs.Expansion.{Named, named, find, Extractor, Extractors, extractor, extractors, called}
 use Rattle.expansion.specs.Flat.{span, after, endOf, childAt, Placed, All, calledAt}
@@ -28,13 +26,14 @@ use Rattle.expansion.proofs.IndexLaws.{child-last, all-at}
 use Rattle.expansion.proofs.StoreLaws.{extractor-at}
 use Rattle.grounds.specs.declared.Judged.{Judged}
 use Rattle.grounds.specs.declared.Judged.the-variants.{Fine, Flawed}
-use Rattle.grounds.specs.Grounds.{refusal, byCall, byName, firstFrom, callFlaw, callFlaws, callFlawsAll, nameFlaw, definitionFlaws, listFlaws}
+use Rattle.grounds.specs.Grounds.{_orElse_, byCall, byName, firstFrom, callFlaw, callFlaws, callFlawsAll, nameFlaw, definitionFlaws, listFlaws}
 use Rattle.grounds.specs.Table.{nameIn, arityIn, placeIn, looked, RowOf, Rows, Table}
 use Rattle.grounds.specs.Leaves.{ExtractorPlaced}
-use Rattle.grounds.specs.Judging.{childrenAt, NamedRows, Known, knownAll, byNumber, CallJudged, CallsJudged, ExtractorJudged, ListJudged}
-use Rattle.grounds.proofs.FirstLaws.{flaw-here, flaw-next, flaw-zeros}
+use Rattle.grounds.specs.Judging.{childrenAt, NamedRows, Known, knownAll, byNumber, Low, CallJudged, CallsJudged, ExtractorJudged, ListJudged}
+use Rattle.grounds.proofs.FirstLaws.{flaw-here, flaw-next, flaw-zeros, flaw-append}
+use Rattle.grounds.proofs.Plain.{calls-sizes}
 use Rattle.grounds.proofs.LookLaws.{found-row, missing-row, first-row, rows-first, rows-others, least, missing-all}
-use Rattle.grounds.proofs.At.{here, past, length-recs, skip-end, kidsAt, trees-at, end-more, end-upto, tree-size, two-children, second-there}
+use Rattle.grounds.proofs.At.{here, past, length-recs, kidsAt, trees-at, end-more, end-upto, tree-size, two-children}
 
 -- ---- by a number
 
@@ -194,12 +193,12 @@ module _ (text : List ℕ) (D E : Extractors) where
 pub record Walking (text t : List ℕ) (n earlier : ℕ) (src : List ℕ) (at trees todo k : ℕ) : Type 0 where
   pub there : todo ≤ count (treesOf (drop k (recs src)))
   pub ends : k + span (drop k (recs src)) todo ≡ at + span (drop at (recs src)) trees
-  pub leads : (x : Known text t n earlier) (base : ℕ) (ns : List ℕ)
-      → firstFrom (base + at) (callFlawsAll text (knownAll x) (x .first) (firsts trees (treesOf (drop at (recs src)))) ++ ns)
-      ≡ firstFrom (base + k) (callFlawsAll text (knownAll x) (x .first) (firsts todo (treesOf (drop k (recs src)))) ++ ns)
+  pub leads : (x : Known text t n earlier)
+      → firstFrom at (callFlawsAll text (knownAll x) (x .first) (firsts trees (treesOf (drop at (recs src)))))
+      ≡ firstFrom k (callFlawsAll text (knownAll x) (x .first) (firsts todo (treesOf (drop k (recs src)))))
 
 pub walking-start : (text t : List ℕ) (n earlier : ℕ) (src : List ℕ) (at trees : ℕ) → trees ≤ count (treesOf (drop at (recs src))) → Walking text t n earlier src at trees trees at
-walking-start text t n earlier src at trees h = record { there = h; ends = refl; leads = λ x base ns. refl }
+walking-start text t n earlier src at trees h = record { there = h; ends = refl; leads = λ x. refl }
 
 pub tree-inside : (src : List ℕ) (k m : ℕ) → 0 < m → m ≤ count (treesOf (drop k (recs src))) → k < slots src
 unfolding treesOf count
@@ -226,11 +225,15 @@ there-next src k todo r is h a m t =
 
 module _ (text t : List ℕ) (n earlier : ℕ) (src : List ℕ) (at trees todo k : ℕ) (g : Walking text t n earlier src at trees todo k) where
   pub walking-end : todo ≤ 0 → CallsJudged text t n earlier src at trees (Fine k)
-  unfolding CallsJudged firsts callFlaws
+  unfolding Low firsts callFlaws firstFrom
   walking-end h =
       let z : todo ≡ 0 = omega arith in
       let s : span (drop k (recs src)) todo ≡ 0 = rw z (span-zero (drop k (recs src))) in
-      (omega (arith, g .ends), λ x base ns. g .leads x base ns ∙ rw z)
+      record {
+        gives = λ x. sym (g .leads x ∙ rw z);
+        low = tt;
+        ends = λ m e. let c : m ≡ k = cc in omega (arith, g .ends);
+      }
 
   pub walking-small : todo ≤ slots src
   walking-small = omega (arith, g .there, trees-few (drop k (recs src)), length-drop k (recs src), length-recs src)
@@ -254,8 +257,13 @@ module _ (text t : List ℕ) (n earlier : ℕ) (src : List ℕ) (at trees todo k
         ∙ rw (← (judged x), c)
 
     pub walking-flawed : (f ≡ 0 → ⊥) → CallsJudged text t n earlier src at trees (Flawed f k)
-    unfolding CallsJudged
-    walking-flawed z = (walking-inside more, λ x base ns. g .leads x base ns ∙ ap (λ (fs : List ℕ). firstFrom (base + k) (fs ++ ns)) (flaw x) ∙ flaw-here (base + k) f _ (omega arith))
+    unfolding Low
+    walking-flawed z =
+        record {
+          gives = λ x. sym (g .leads x ∙ ap (firstFrom k) (flaw x) ∙ flaw-here k f _ (omega arith));
+          low = walking-inside more;
+          ends = λ m e. absurd (let u : _≡_ {A = ℕ} 0 1 = cc in omega arith);
+        }
 
     pub walking-next : (r : Rec) → r ≡ recAt src k → f ≡ 0 → Walking text t n earlier src at trees (todo - 1 + r .count) (k + 1)
     unfolding span
@@ -267,14 +275,8 @@ module _ (text t : List ℕ) (n earlier : ℕ) (src : List ℕ) (at trees todo k
               let c : recAt src k .count + (todo - 1) ≡ todo - 1 + r .count = rw is (omega arith) in
               let s : span (drop k (recs src)) todo ≡ suc (span (drop (k + 1) (recs src)) (todo - 1 + r .count)) = ap (span (drop k (recs src))) m ∙ ap (λ (rs : List Rec). span rs (suc (todo - 1))) split ∙ rw c in
               omega (arith, g .ends);
-          leads = λ x base ns.
-              g .leads x base ns ∙ ap (λ (fs : List ℕ). firstFrom (base + k) (fs ++ ns)) (flaw x) ∙ flaw-next (base + k) f _ z
-              ∙ ap (λ (j : ℕ). firstFrom j (callFlawsAll text (knownAll x) (x .first) (firsts (todo - 1 + recAt src k .count) (treesOf (drop (k + 1) (recs src)))) ++ ns)) (next-place base)
-              ∙ rw is;
+          leads = λ x. g .leads x ∙ ap (firstFrom k) (flaw x) ∙ flaw-next k f _ z ∙ rw (add-one k, is);
         }
-      where
-        next-place : (base : ℕ) → suc (base + k) ≡ base + (k + 1)
-        next-place base = omega arith
 
 -- ---- an Extractor
 
@@ -288,25 +290,29 @@ module _ (text t : List ℕ) (n earlier : ℕ) (defs : List ℕ) (i : ℕ) (more
 
   module _ (name : Rec) (is : name ≡ recAt defs (i + 1)) (x : ℕ) (found : x ≡ looked text t (name .word1) 0 earlier) where
     pub extractor-again : x < earlier → ExtractorJudged text t n earlier defs i (Flawed 30 i)
-    unfolding ExtractorJudged
+    unfolding Low
     extractor-again h =
         let l : looked text t (recAt defs (i + 1) .word1) 0 earlier < earlier = rw (← is, ← found) h in
-        (omega arith, λ k ns. rw (first-name (knownAll k) (k .first), name-is text t (recAt defs (i + 1) .word1) n earlier 0 k l) (flaw-here i 30 _ (omega arith)))
+        record {
+          gives = λ k. sym (rw (first-name (knownAll k) (k .first), name-is text t (recAt defs (i + 1) .word1) n earlier 0 k l) (flaw-here i 30 _ (omega arith)));
+          low = omega arith;
+          ends = λ m e. absurd (let u : _≡_ {A = ℕ} 0 1 = cc in omega arith);
+        }
 
-    fine-name : earlier ≤ x → (k : Known text t n earlier) (ns : List ℕ) → firstFrom i ((nameFlaw text (knownAll k) (k .first) (childrenAt defs i) ∷ callFlawsAll text (knownAll k) (k .first) (childrenAt defs i)) ++ ns)
-        ≡ firstFrom (0 + (i + 1)) (callFlawsAll text (knownAll k) (k .first) (childrenAt defs i) ++ ns)
-    fine-name h k ns =
+    fine-name : earlier ≤ x → (k : Known text t n earlier) → firstFrom i (nameFlaw text (knownAll k) (k .first) (childrenAt defs i) ∷ callFlawsAll text (knownAll k) (k .first) (childrenAt defs i))
+        ≡ firstFrom (i + 1) (callFlawsAll text (knownAll k) (k .first) (childrenAt defs i))
+    fine-name h k =
         let l : earlier ≤ looked text t (recAt defs (i + 1) .word1) 0 earlier = rw (← is, ← found) h in
-        let p : suc i ≡ 0 + (i + 1) = omega arith in
-        flaw-next i _ _ (first-name (knownAll k) (k .first) ∙ name-not text t (recAt defs (i + 1) .word1) n earlier 0 k l) ∙ rw p
+        flaw-next i _ _ (first-name (knownAll k) (k .first) ∙ name-not text t (recAt defs (i + 1) .word1) n earlier 0 k l) ∙ rw (add-one i)
 
     pub extractor-calls : earlier ≤ x → (j : Judged) → CallsJudged text t n earlier defs (i + 1) (recAt defs i .count) j → ExtractorJudged text t n earlier defs i j
-    unfolding CallsJudged ExtractorJudged childAt
-    extractor-calls h (Fine next) q = (
-      q .0 ∙ child-last (recs defs) i (recAt defs i) (here defs i (omega arith)),
-      λ k ns. fine-name h k ns ∙ q .1 k 0 ns ∙ ap (λ (m : ℕ). firstFrom m ns) (zero-add next),
-    )
-    extractor-calls h (Flawed f p) q = (q .0, λ k ns. fine-name h k ns ∙ q .1 k 0 ns ∙ ap (λ (m : ℕ). some (refusal f m)) (zero-add p))
+    unfolding childAt
+    extractor-calls h j q =
+        record {
+          gives = λ k. q .gives k ∙ sym (fine-name h k);
+          low = q .low;
+          ends = λ m e. q .ends m e ∙ child-last (recs defs) i (recAt defs i) (here defs i (omega arith));
+        }
 
 pub kids-there : (defs : List ℕ) (i c : ℕ) → All Placed (recs defs) → i < slots defs → c ≡ recAt defs i .count → c ≤ count (treesOf (drop (i + 1) (recs defs)))
 kids-there defs i c a h e = rw e (all-at (recs defs) Placed a i (recAt defs i) (drop (i + 1) (recs defs)) (here defs i h) .whole)
@@ -370,11 +376,11 @@ pub record Listing (text defs t : List ℕ) (n earlier i : ℕ) : Type 0 where
   pub first : Extractors
   pub sized : length first ≡ earlier
   pub whole : extractors text (treesOf (recs defs)) ≡ first ++ extractors text (treesOf (drop i (recs defs)))
-  pub leads : (ns : List ℕ) → firstFrom 0 (listFlaws text (extractors text (treesOf (recs defs))) [] (treesOf (recs defs)) ++ ns)
-      ≡ firstFrom i (listFlaws text (extractors text (treesOf (recs defs))) first (treesOf (drop i (recs defs))) ++ ns)
+  pub leads : firstFrom 0 (listFlaws text (extractors text (treesOf (recs defs))) [] (treesOf (recs defs)))
+      ≡ firstFrom i (listFlaws text (extractors text (treesOf (recs defs))) first (treesOf (drop i (recs defs))))
 
 pub listing-start : (text defs t : List ℕ) (n : ℕ) → Listing text defs t n 0 0
-listing-start text defs t n = record { upto = omega arith; first = []; sized = refl; whole = refl; leads = λ ns. refl }
+listing-start text defs t n = record { upto = omega arith; first = []; sized = refl; whole = refl; leads = refl }
 
 module _ (text defs t : List ℕ) (n earlier i end : ℕ) (g : Listing text defs t n earlier i) (all : end ≡ slots defs) (a : All Placed (recs defs)) (b : Table text defs t n) where
   abbrev whole-list : Extractors
@@ -384,11 +390,8 @@ module _ (text defs t : List ℕ) (n earlier i end : ℕ) (g : Listing text defs
   listing-few = omega (arith, g .sized, ap length (g .whole), length-append (g .first) (extractors text (treesOf (drop i (recs defs)))), b .size)
 
   pub listing-end : (m : ℕ) → end ≤ i → ListJudged text defs (Fine m)
-  unfolding ListJudged treesOf listFlaws
-  listing-end m h ns =
-      let z : drop i (recs defs) ≡ [] = past defs i (omega arith) in
-      let e : i ≡ slots defs = omega (arith, g .upto) in
-      g .leads ns ∙ rw (z, e)
+  unfolding Low treesOf listFlaws firstFrom
+  listing-end m h = let z : drop i (recs defs) ≡ [] = past defs i (omega arith) in record { gives = sym (g .leads ∙ rw z); low = tt }
 
   module _ (r : Rec) (is : r ≡ recAt defs i) (more : i < end) where
     spot : drop i (recs defs) ≡ r ∷ drop (i + 1) (recs defs)
@@ -427,12 +430,12 @@ module _ (text defs t : List ℕ) (n earlier i end : ℕ) (g : Listing text defs
           first = g .first;
           sized = g .sized;
           whole = whole-next false (not-kind k) ∙ rw append-nil;
-          leads = λ ns.
-              g .leads ns
-              ∙ ap (λ (fs : List ℕ). firstFrom i (fs ++ ns)) (list-next false (not-kind k))
-              ∙ rw (not-kind k, append-nil, append-assoc)
-              (flaw-zeros i (length (records (node (headOf r) (kidsAt (recs defs) i r spot)))) (listFlaws text whole-list (g .first) (treesOf (drop (endOf (recs defs) i) (recs defs))) ++ ns)
-              ∙ ap (λ (m : ℕ). firstFrom m (listFlaws text whole-list (g .first) (treesOf (drop (endOf (recs defs) i) (recs defs))) ++ ns)) (tree-size (recs defs) i r spot a));
+          leads =
+              g .leads
+              ∙ ap (firstFrom i) (list-next false (not-kind k))
+              ∙ rw (not-kind k, append-nil)
+              (flaw-zeros i (length (records (node (headOf r) (kidsAt (recs defs) i r spot)))) (listFlaws text whole-list (g .first) (treesOf (drop (endOf (recs defs) i) (recs defs))))
+              ∙ ap (λ (m : ℕ). firstFrom m (listFlaws text whole-list (g .first) (treesOf (drop (endOf (recs defs) i) (recs defs))))) (tree-size (recs defs) i r spot a));
         })
 
     module _ (k : r .kind ≡ 19) where
@@ -442,28 +445,40 @@ module _ (text defs t : List ℕ) (n earlier i end : ℕ) (g : Listing text defs
       abbrev others-after : List ℕ
       others-after = listFlaws text whole-list (g .first ++ pick true (extractor text (kidsAt (recs defs) i r spot)) []) (treesOf (drop (endOf (recs defs) i) (recs defs)))
 
-      list-this : (ns : List ℕ) → firstFrom i (listFlaws text whole-list (g .first) (treesOf (drop i (recs defs))) ++ ns)
-          ≡ firstFrom i ((nameFlaw text (knownAll known) (g .first) (childrenAt defs i) ∷ callFlawsAll text (knownAll known) (g .first) (childrenAt defs i)) ++ (others-after ++ ns))
+      -- of the Extractor's own records
+      abbrev this-one : List ℕ
+      this-one = nameFlaw text (knownAll known) (g .first) (childrenAt defs i) ∷ callFlawsAll text (knownAll known) (g .first) (childrenAt defs i)
+
+      list-this : listFlaws text whole-list (g .first) (treesOf (drop i (recs defs))) ≡ this-one ++ others-after
       unfolding definitionFlaws table-known
-      list-this ns =
-          ap (λ (fs : List ℕ). firstFrom i (fs ++ ns)) (list-next true (has-kind k))
-          ∙ rw (has-kind k, append-assoc)
-          (ap (λ (D : Extractors). firstFrom i ((nameFlaw text D (g .first) (kidsAt (recs defs) i r spot) ∷ callFlawsAll text D (g .first) (kidsAt (recs defs) i r spot)) ++ (others-after ++ ns))) (g .whole)
-          ∙ ap (λ (s : Rec). firstFrom i ((nameFlaw text (knownAll known) (g .first) (firsts (s .count) (treesOf (drop (i + 1) (recs defs)))) ∷ callFlawsAll text (knownAll known) (g .first) (firsts (s .count) (treesOf (drop (i + 1) (recs defs))))) ++ (others-after ++ ns))) is)
+      list-this =
+          list-next true (has-kind k)
+          ∙ rw (has-kind k)
+          (ap (λ (D : Extractors). (nameFlaw text D (g .first) (kidsAt (recs defs) i r spot) ∷ callFlawsAll text D (g .first) (kidsAt (recs defs) i r spot)) ++ others-after) (g .whole)
+          ∙ ap (λ (s : Rec). (nameFlaw text (knownAll known) (g .first) (firsts (s .count) (treesOf (drop (i + 1) (recs defs)))) ∷ callFlawsAll text (knownAll known) (g .first) (firsts (s .count) (treesOf (drop (i + 1) (recs defs))))) ++ others-after) is)
+
+      this-size : i + length this-one ≡ endOf (recs defs) i
+      unfolding table-known
+      this-size =
+          let c : recAt defs i .count ≡ r .count = ap (λ (s : Rec). s .count) (sym is) in
+          let e : length (callFlawsAll text (knownAll known) (g .first) (childrenAt defs i)) ≡ length (recordsAll (kidsAt (recs defs) i r spot)) = calls-sizes text (knownAll known) (g .first) (childrenAt defs i) ∙ rw c in
+          omega (arith, tree-size (recs defs) i r spot a, size-node (headOf r) (kidsAt (recs defs) i r spot))
+
+      list-first : firstFrom 0 (listFlaws text whole-list [] (treesOf (recs defs))) ≡ firstFrom i this-one orElse firstFrom (endOf (recs defs) i) others-after
+      list-first = g .leads ∙ ap (firstFrom i) list-this ∙ flaw-append i this-one others-after ∙ ap (λ (m : ℕ). firstFrom i this-one orElse firstFrom m others-after) this-size
 
       pub listing-flawed : (j : Judged) (f p : ℕ) → j ≡ Flawed f p → ExtractorJudged text t n earlier defs i j → ListJudged text defs j
-      unfolding ExtractorJudged ListJudged table-known
+      unfolding table-known
       listing-flawed (Fine m) f p h q = absurd (let z : _≡_ {A = ℕ} 0 1 = cc in omega arith)
-      listing-flawed (Flawed m k′) f p h q = (q .0, λ ns. g .leads ns ∙ list-this ns ∙ q .1 known (others-after ++ ns))
+      listing-flawed (Flawed m k′) f p h q = record { gives = ap (_orElse firstFrom (endOf (recs defs) i) others-after) (q .gives known) ∙ sym list-first; low = q .low }
 
       pub listing-after : (j : Judged) (next : ℕ) → j ≡ Fine next → ExtractorJudged text t n earlier defs i j → next ≡ endOf (recs defs) i
-      unfolding ExtractorJudged
-      listing-after j next e q = (rw e at q) .0
+      listing-after j next e q = q .ends next e
 
       listing-next : (next : ℕ) → ExtractorJudged text t n earlier defs i (Fine next) → All ExtractorPlaced (recs defs) → Listing text defs t n (earlier + 1) next
-      unfolding ExtractorJudged table-known
+      unfolding table-known
       listing-next next q x =
-          let e : next ≡ endOf (recs defs) i = q .0 in
+          let e : next ≡ endOf (recs defs) i = q .ends next refl in
           let two : 2 ≤ r .count = two-children defs i r is (omega arith) x k in
           let c : count (kidsAt (recs defs) i r spot) ≡ r .count = count-firsts (r .count) (treesOf (drop (i + 1) (recs defs))) (all-at (recs defs) Placed a i r (drop (i + 1) (recs defs)) spot .whole) in
           record {
@@ -471,7 +486,7 @@ module _ (text defs t : List ℕ) (n earlier i end : ℕ) (g : Listing text defs
             first = g .first ++ extractor text (kidsAt (recs defs) i r spot);
             sized = length-append (g .first) (extractor text (kidsAt (recs defs) i r spot)) ∙ omega (arith, g .sized, extractor-one text (kidsAt (recs defs) i r spot) (omega arith));
             whole = rw e (whole-next true (has-kind k));
-            leads = λ ns. g .leads ns ∙ list-this ns ∙ q .1 known (others-after ++ ns) ∙ rw e;
+            leads = list-first ∙ ap (_orElse firstFrom (endOf (recs defs) i) others-after) (sym (q .gives known)) ∙ rw e;
           }
 
       pub listing-on : (j : Judged) (next : ℕ) → j ≡ Fine next → ExtractorJudged text t n earlier defs i j → All ExtractorPlaced (recs defs) → Listing text defs t n (earlier + 1) next

@@ -40,7 +40,7 @@ module _ (text : List ℕ) (D E : Extractors) where
     calls-size : (t : Tree) → length (callFlaws text D E t) ≡ length (records t)
     calls-size (node h ts) = ap suc (calls-sizes ts)
 
-    calls-sizes : (ts : Trees) → length (callFlawsAll text D E ts) ≡ length (recordsAll ts)
+    pub calls-sizes : (ts : Trees) → length (callFlawsAll text D E ts) ≡ length (recordsAll ts)
     calls-sizes ∅ = refl
     calls-sizes (t ▸ ts) = length-append (callFlaws text D E t) (callFlawsAll text D E ts) ∙ ap₂ _+_ (calls-size t) (calls-sizes ts) ∙ sym (length-append (records t) (recordsAll ts))
 
@@ -127,6 +127,14 @@ module _ (text : List ℕ) (D : Extractors) where
       go true = ap suc (calls-sizes text D E ts)
       go false = length-zeros (suc (length (recordsAll ts)))
 
+  pub list-size : (list : Trees) (E : Extractors) → length (listFlaws text D E list) ≡ length (recordsAll list)
+  unfolding listFlaws recordsAll
+  list-size ∅ E = refl
+  list-size (node h ts ▸ list) E =
+      length-append (definitionFlaws text D E (node h ts)) (listFlaws text D (E ++ pick (isExtractor (h .kind)) (extractor text ts) []) list)
+      ∙ ap₂ _+_ (definition-size E (node h ts)) (list-size list (E ++ pick (isExtractor (h .kind)) (extractor text ts) []))
+      ∙ sym (length-append (records (node h ts)) (recordsAll list))
+
   -- the definition after others
   list-at : (before : Trees) (E : Extractors) (h : Head) (ts after : Trees) (i : ℕ) → i < length (records (node h ts))
       → getD (listFlaws text D E (before ⧺ (node h ts ▸ after))) (length (recordsAll before) + i) 0 ≡ getD (definitionFlaws text D (E ++ extractors text before) (node h ts)) i 0
@@ -191,14 +199,6 @@ module _ (text : List ℕ) (ds : Trees) (p : Tree) where
           (ap (λ (F : Extractors). getD (listFlaws text D F list) (i - length (definitionFlaws text D (extractors text before) (node h ts))) 0) (extractors-one before h ts)
           ∙ sym (right-part (definitionFlaws text D (extractors text before) (node h ts)) (listFlaws text D (extractors text before ++ pick (isExtractor (h .kind)) (extractor text ts) []) list) i (omega arith)) ∙ e))
 
-  list-size : (list : Trees) (E : Extractors) → length (listFlaws text D E list) ≡ length (recordsAll list)
-  unfolding listFlaws recordsAll
-  list-size ∅ E = refl
-  list-size (node h ts ▸ list) E =
-      length-append (definitionFlaws text D E (node h ts)) (listFlaws text D (E ++ pick (isExtractor (h .kind)) (extractor text ts) []) list)
-      ∙ ap₂ _+_ (definition-size text D E (node h ts)) (list-size list (E ++ pick (isExtractor (h .kind)) (extractor text ts) []))
-      ∙ sym (length-append (records (node h ts)) (recordsAll list))
-
   abbrev in-list : List ℕ
   in-list = listFlaws text D [] ds
 
@@ -217,7 +217,7 @@ module _ (text : List ℕ) (ds : Trees) (p : Tree) where
       go (yes l) = rw (zero-add k) at (list-found ds ∅ k n (sym (none-⧺ ds)) (sym (left-part in-list in-tree k l) ∙ e))
       go (no l) =
           let f = calls-found text D D (p ▸ ∅) (k - length in-list) n (ap (λ (ns : List ℕ). getD ns (k - length in-list) 0) pattern-row ∙ sym (right-part in-list in-tree k (omega arith)) ∙ e) in
-          in-pattern (f .head-of) (f .children-of) (suc n) (k - length in-list) k (f .at) (f .flaw) (omega (arith, list-size ds []))
+          in-pattern (f .head-of) (f .children-of) (suc n) (k - length in-list) k (f .at) (f .flaw) (omega (arith, list-size text D ds []))
 
   call-positive : (E : Extractors) (h : Head) (us : Trees) (n : ℕ) → CallFlaw text D E h us n → 0 < n
   call-positive E h us n (wrong-count x a b) = omega arith
@@ -232,7 +232,7 @@ module _ (text : List ℕ) (ds : Trees) (p : Tree) where
       ∙ ap (λ (list : Trees). getD (listFlaws text D [] list) (length (recordsAll before) + i) 0) s ∙ list-at text D before [] h ts after i l ∙ e
     where
       inside-list : length (recordsAll before) + i < length in-list
-      inside-list = omega (arith, list-size ds [], ap (λ (list : Trees). length (recordsAll list)) s, size-⧺ before (node h ts ▸ after), size-first)
+      inside-list = omega (arith, list-size text D ds [], ap (λ (list : Trees). length (recordsAll list)) s, size-⧺ before (node h ts ▸ after), size-first)
         where
           size-first : length (recordsAll (node h ts ▸ after)) ≡ length (records (node h ts)) + length (recordsAll after)
           size-first = ap length (recordsAll-more (node h ts) after) ∙ length-append (records (node h ts)) (recordsAll after)
@@ -254,7 +254,7 @@ module _ (text : List ℕ) (ds : Trees) (p : Tree) where
     where
       at-pattern : getD (flaws text ds p) k 0 ≡ n
       at-pattern =
-          let z : k ≡ length in-list + j = omega (arith, list-size ds []) in
+          let z : k ≡ length in-list + j = omega (arith, list-size text D ds []) in
           rw z (flaws-right j ∙ ap (λ (ns : List ℕ). getD ns j 0) (sym pattern-row) ∙ calls-at text D D (p ▸ ∅) j g us a ∙ flaw-call text D D g us n c)
 
   -- the theorem: the number of a record is 30, 31 or 32 exactly if that fact holds there

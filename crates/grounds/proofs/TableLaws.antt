@@ -1,19 +1,17 @@
 -- Names looked up in the table, and the ways through making it. Assumes nothing.
 use mathlib.Core.Path.{_≡_, refl, sym, ap, _∙_}
 use mathlib.Core.Bool.{Bool, true, false}
-use mathlib.Core.Option.{Option, none, some}
 use mathlib.Core.List.{List, [], _∷_, _++_, append-assoc, append-nil}
-use Prim.Native.Nat.{ℕ, zero, suc, _+_, _-_, _*_, _<_, _≤_}
-use native.Mathlib.Nat.{add-zero, zero-add, suc-add, add-suc}
+use Prim.Native.Nat.{ℕ, suc, _+_, _-_, _*_, _<_, _≤_}
+use native.Mathlib.Nat.{add-zero}
 use native.Mathlib.Numerals.{add-one}
 use native.Mathlib.Omega.{arith}
-use lib.Dec.{eqb, ltb}
 use lib.ListN.{length, getD, set, drop, length-set, length-append}
-use lib.Seq.{getD-set-same, getD-set-other, getD-append-add}
+use lib.Seq.{getD-set-same, getD-set-other}
 use borrow.Author.Tests.{eq-eqb, ne-eqb, lt-ltb, le-ltb}
 use Rattle.trees.specs.Choice.{pick}
 use Rattle.trees.specs.declared.Rec.{Rec}
-use Rattle.trees.specs.Tree.{Tree, Trees, node, ∅, _▸_, count, firsts, headOf, treesOf}
+use Rattle.trees.specs.Tree.{node, ∅, count, firsts, headOf, treesOf}
 use Rattle.trees.specs.Names.{spelled}
 use Rattle.words.specs.Bytes.{sameBytes}
 use Rattle.records.specs.Slots.{slots, recAt, recs}
@@ -24,9 +22,10 @@ use Rattle.expansion.specs.Flat.{after, endOf, Placed, All}
 use Rattle.expansion.proofs.IndexLaws.{all-at}
 use Rattle.expansion.proofs.StoreLaws.{extractor-at}
 use Rattle.grounds.specs.declared.Judged.the-variants.{Fine, Flawed}
-use Rattle.grounds.specs.Grounds.{refusal, extractorPlaces, mostExtractors, manyGround}
+use Rattle.grounds.specs.Grounds.{extractorPlaces, manyGround}
 use Rattle.grounds.specs.Leaves.{ExtractorPlaced}
-use Rattle.grounds.specs.Table.{nameIn, arityIn, placeIn, looked, RowOf, Rows, Table, Tabled}
+use Rattle.grounds.specs.Table.{nameIn, arityIn, placeIn, looked, RowOf, Rows}
+use Rattle.grounds.specs.Judging.{Low, Tabled}
 use Rattle.grounds.proofs.At.{here, past, length-recs, skip-end, kidsAt, trees-at, end-more, end-upto, tree-size, two-children, second-there}
 
 -- ---- names
@@ -89,17 +88,19 @@ making-start defs t l =
 
 module _ (defs t : List ℕ) (n i end : ℕ) (g : Making defs t n i) (all : end ≡ slots defs) where
   pub making-end : end ≤ i → Tabled defs t (Fine n)
-  unfolding Tabled manyGround extractorPlaces extractors treesOf
+  unfolding Low manyGround extractorPlaces extractors treesOf
   making-end h =
       let z : drop i (recs defs) ≡ [] = past defs i (omega arith) in
       let p = g .places in
-      let few : length (extractorPlaces 0 (treesOf (recs defs))) ≤ 256 = rw (p .2, z, append-nil) (omega (arith, p .1, g .few)) in (
-        λ text.
+      let few : length (extractorPlaces 0 (treesOf (recs defs))) ≤ 256 = rw (p .2, z, append-nil) (omega (arith, p .1, g .few)) in
+      record {
+        answers = record { gives = rw (le-ltb 256 (length (extractorPlaces 0 (treesOf (recs defs)))) few); low = tt };
+        table = λ m q text.
             let r = g .rows text in
             let e : extractors text (treesOf (recs defs)) ≡ r .0 = r .2 ∙ rw (z, append-nil) in
-            record { rows = rw e (r .3); size = rw e (r .1); few = g .few; long = g .long },
-        rw (le-ltb 256 (length (extractorPlaces 0 (treesOf (recs defs)))) few),
-      )
+            let c : n ≡ m = cc in
+            rw (← c) (record { rows = rw e (r .3); size = rw e (r .1); few = g .few; long = g .long });
+      }
 
   module _ (r : Rec) (is : r ≡ recAt defs i) (more : i < end) (a : All Placed (recs defs)) where
     at : drop i (recs defs) ≡ r ∷ drop (i + 1) (recs defs)
@@ -141,13 +142,16 @@ module _ (defs t : List ℕ) (n i end : ℕ) (g : Making defs t n i) (all : end 
         })
 
     pub making-many : r .kind ≡ 19 → n ≡ 256 → Tabled defs t (Flawed 33 i)
-    unfolding Tabled manyGround
+    unfolding Low manyGround
     making-many k m =
         let p = g .places in
         let q : extractorPlaces 0 (treesOf (recs defs)) ≡ p .0 ++ (i ∷ extractorPlaces (endOf (recs defs) i) (treesOf (drop (endOf (recs defs) i) (recs defs)))) = p .2 ∙ ap (p .0 ++_) (places-next true (this k)) in
         let l : 256 < length (extractorPlaces 0 (treesOf (recs defs))) = rw q (omega (arith, length-append (p .0) (i ∷ extractorPlaces (endOf (recs defs) i) (treesOf (drop (endOf (recs defs) i) (recs defs)))), p .1)) in
         let v : getD (extractorPlaces 0 (treesOf (recs defs))) 256 0 ≡ i = rw q (at-end (p .0) i (extractorPlaces (endOf (recs defs) i) (treesOf (drop (endOf (recs defs) i) (recs defs)))) 256 (p .1 ∙ m)) in
-        (rw (lt-ltb 256 (length (extractorPlaces 0 (treesOf (recs defs)))) l, v), omega arith)
+        record {
+          answers = record { gives = rw (lt-ltb 256 (length (extractorPlaces 0 (treesOf (recs defs)))) l, v); low = omega arith };
+          table = λ m q. absurd (let u : _≡_ {A = ℕ} 0 1 = cc in omega arith);
+        }
       where
         at-end : (xs : List ℕ) (y : ℕ) (ys : List ℕ) (m : ℕ) → length xs ≡ m → getD (xs ++ (y ∷ ys)) m 0 ≡ y
         at-end [] y ys m e = rw (← e)

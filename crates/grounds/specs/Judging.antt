@@ -13,15 +13,28 @@ use Rattle.expansion.specs.Expansion.{Named, Extractor, Extractors, extractors}
 use Rattle.expansion.specs.Flat.{span, endOf, Placed, All}
 use Rattle.grounds.specs.declared.Judged.{Judged}
 use Rattle.grounds.specs.declared.Judged.the-variants.{Fine, Flawed}
-use Rattle.grounds.specs.Grounds.{Refusal, refusal, firstFrom, callFlaw, callFlawsAll, nameFlaw, listFlaws, flaws, grounds}
+use Rattle.grounds.specs.Grounds.{Refusal, refusal, firstFrom, callFlaw, callFlawsAll, nameFlaw, listFlaws, extractorPlaces, manyGround, flaws, grounds}
 use Rattle.grounds.specs.Table.{arityIn, RowsOf, Table}
 use Rattle.grounds.specs.Leaves.{ExtractorPlaced}
 use Rattle.grounds.specs.Opening.{treeOf}
 
--- the number and place of an answer
+-- ---- the number and the place that document 01 gives to each answer; none where nothing is wrong
+
 abbrev pub given : Judged → Option Refusal
 given (Fine n) = none
 given (Flawed f k) = some (refusal f k)
+
+-- a place below m
+unfoldable pub Low : ℕ → Judged → Type 0
+Low m (Fine n) = Unit {0}
+Low m (Flawed f k) = k < m
+
+-- r gives the ground g, its place below m
+pub record Answers (g : Option Refusal) (m : ℕ) (r : Judged) : Type 0 where
+  pub gives : given r ≡ g
+  pub low : Low m r
+
+-- ---- names and calls
 
 -- the children of the record k
 abbrev pub childrenAt : List ℕ → ℕ → Trees
@@ -50,35 +63,39 @@ byNumber t n earlier x c = pick (ltb x earlier) (pick (eqb (arityIn t x) (c - 1)
 unfoldable pub CallJudged : List ℕ → List ℕ → ℕ → ℕ → List ℕ → ℕ → ℕ → Type 0
 CallJudged text t n earlier src k y = (x : Known text t n earlier) → y ≡ callFlaw text (knownAll x) (x .first) (headOf (recAt src k)) (childrenAt src k)
 
--- the calls in the trees from the index `at` on, with places counted from `base`, and ns after them
-unfoldable pub CallsJudged : List ℕ → List ℕ → ℕ → ℕ → List ℕ → ℕ → ℕ → Judged → Type 0
-CallsJudged text t n earlier src at trees (Fine next) =
-    (next ≡ at + span (drop at (recs src)) trees) × ((x : Known text t n earlier) (base : ℕ) (ns : List ℕ)
-    → firstFrom (base + at) (callFlawsAll text (knownAll x) (x .first) (firsts trees (treesOf (drop at (recs src)))) ++ ns) ≡ firstFrom (base + next) ns)
-CallsJudged text t n earlier src at trees (Flawed f k) =
-    (k < slots src) × ((x : Known text t n earlier) (base : ℕ) (ns : List ℕ)
-    → firstFrom (base + at) (callFlawsAll text (knownAll x) (x .first) (firsts trees (treesOf (drop at (recs src)))) ++ ns) ≡ some (refusal f (base + k)))
+-- the calls in the trees from the index `at` on; a fine answer is where these trees end
+pub record CallsJudged (text t : List ℕ) (n earlier : ℕ) (src : List ℕ) (at trees : ℕ) (r : Judged) : Type 0 where
+  pub gives : (x : Known text t n earlier) → given r ≡ firstFrom at (callFlawsAll text (knownAll x) (x .first) (firsts trees (treesOf (drop at (recs src)))))
+  pub low : Low (slots src) r
+  pub ends : (m : ℕ) → r ≡ Fine m → m ≡ at + span (drop at (recs src)) trees
 
--- the Extractor at the index i: its name, and its calls
-unfoldable pub ExtractorJudged : List ℕ → List ℕ → ℕ → ℕ → List ℕ → ℕ → Judged → Type 0
-ExtractorJudged text t n earlier defs i (Fine next) =
-    (next ≡ endOf (recs defs) i) × ((x : Known text t n earlier) (ns : List ℕ)
-    → firstFrom i ((nameFlaw text (knownAll x) (x .first) (childrenAt defs i) ∷ callFlawsAll text (knownAll x) (x .first) (childrenAt defs i)) ++ ns) ≡ firstFrom next ns)
-ExtractorJudged text t n earlier defs i (Flawed f k) =
-    (k < slots defs) × ((x : Known text t n earlier) (ns : List ℕ)
-    → firstFrom i ((nameFlaw text (knownAll x) (x .first) (childrenAt defs i) ∷ callFlawsAll text (knownAll x) (x .first) (childrenAt defs i)) ++ ns) ≡ some (refusal f k))
+-- the Extractor at the index i: its name, and its calls; a fine answer is where its tree ends
+pub record ExtractorJudged (text t : List ℕ) (n earlier : ℕ) (defs : List ℕ) (i : ℕ) (r : Judged) : Type 0 where
+  pub gives : (x : Known text t n earlier) → given r ≡ firstFrom i (nameFlaw text (knownAll x) (x .first) (childrenAt defs i) ∷ callFlawsAll text (knownAll x) (x .first) (childrenAt defs i))
+  pub low : Low (slots defs) r
+  pub ends : (m : ℕ) → r ≡ Fine m → m ≡ endOf (recs defs) i
 
--- a definition list, with ns after it
-unfoldable pub ListJudged : List ℕ → List ℕ → Judged → Type 0
-ListJudged text defs (Fine n) =
-    (ns : List ℕ) → firstFrom 0 (listFlaws text (extractors text (treesOf (recs defs))) [] (treesOf (recs defs)) ++ ns) ≡ firstFrom (slots defs) ns
-ListJudged text defs (Flawed f k) =
-    (k < slots defs) × ((ns : List ℕ) → firstFrom 0 (listFlaws text (extractors text (treesOf (recs defs))) [] (treesOf (recs defs)) ++ ns) ≡ some (refusal f k))
+-- a definition list
+abbrev pub ListJudged : List ℕ → List ℕ → Judged → Type 0
+ListJudged text defs r = Answers (firstFrom 0 (listFlaws text (extractors text (treesOf (recs defs))) [] (treesOf (recs defs)))) (slots defs) r
 
--- an answer is the ground g, its place below m
-unfoldable pub Answers : Option Refusal → ℕ → Judged → Type 0
-Answers g m (Fine n) = g ≡ none
-Answers g m (Flawed f k) = (g ≡ some (refusal f k)) × (k < m)
+-- an answer whose place goes on after d records, with n for a fine one
+abbrev pub moved : Judged → ℕ → ℕ → Judged
+moved (Fine m) n d = Fine n
+moved (Flawed f k) n d = Flawed f (d + k)
+
+-- the definition list, and then the pattern; a fine answer is n
+pub record FlawsJudged (text defs pattern : List ℕ) (n : ℕ) (r : Judged) : Type 0 where
+  pub answers : Answers (firstFrom 0 (flaws text (treesOf (recs defs)) (treeOf (recs pattern)))) (slots defs + slots pattern) r
+  pub counts : (m : ℕ) → r ≡ Fine m → m ≡ n
+
+-- ---- making the table; a fine answer is how many extractors it holds
+
+pub record Tabled (defs t : List ℕ) (r : Judged) : Type 0 where
+  pub answers : Answers (manyGround (extractorPlaces 0 (treesOf (recs defs)))) (slots defs) r
+  pub table : (n : ℕ) → r ≡ Fine n → (text : List ℕ) → Table text defs t n
+
+-- ---- all grounds
 
 -- what is known of lent lists that are of their kind and within the limits
 pub record Shaped (defs pattern : List ℕ) : Type 0 where
@@ -89,23 +106,7 @@ pub record Shaped (defs pattern : List ℕ) : Type 0 where
   pub pattern-placed : All Placed (recs pattern)
   pub one : treesOf (recs pattern) ≡ treeOf (recs pattern) ▸ ∅
 
--- an answer whose place goes on after d records, with n for a fine one; a place below m
-abbrev pub moved : Judged → ℕ → ℕ → Judged
-moved (Fine m) n d = Fine n
-moved (Flawed f k) n d = Flawed f (d + k)
-
-unfoldable pub Low : ℕ → Judged → Type 0
-Low m (Fine n) = Unit {0}
-Low m (Flawed f k) = k < m
-
--- the answer of judging names and calls
-unfoldable pub FlawsJudged : List ℕ → List ℕ → List ℕ → ℕ → Judged → Type 0
-FlawsJudged text defs pattern n (Fine m) = (firstFrom 0 (flaws text (treesOf (recs defs)) (treeOf (recs pattern))) ≡ none) × (m ≡ n)
-FlawsJudged text defs pattern n (Flawed f k) =
-    (firstFrom 0 (flaws text (treesOf (recs defs)) (treeOf (recs pattern))) ≡ some (refusal f k)) × (k < slots defs + slots pattern)
-
--- the answer of judging all grounds: as many extractors as are in the table, or the refusal
-unfoldable pub Grounded : List ℕ → List ℕ → List ℕ → List ℕ → Judged → Type 0
-Grounded text defs pattern t (Fine n) = (grounds text (treesOf (recs defs)) (treeOf (recs pattern)) ≡ none) × Table text defs t n
-Grounded text defs pattern t (Flawed f k) =
-    (grounds text (treesOf (recs defs)) (treeOf (recs pattern)) ≡ some (refusal f k)) × (k < slots defs + slots pattern)
+-- a fine answer is how many extractors the table holds
+pub record Grounded (text defs pattern t : List ℕ) (r : Judged) : Type 0 where
+  pub answers : Answers (grounds text (treesOf (recs defs)) (treeOf (recs pattern))) (slots defs + slots pattern) r
+  pub table : (n : ℕ) → r ≡ Fine n → Table text defs t n

@@ -1,7 +1,6 @@
 -- The table of extractors, three numbers to a row: the name's range, the number of parameters, the place of the Extractor.
 use mathlib.Core.Path.{_≡_}
 use mathlib.Core.Bool.{true}
-use mathlib.Core.Option.{none, some}
 use mathlib.Core.List.{List, [], _∷_}
 use Prim.Native.Nat.{ℕ, zero, suc, _+_, _*_, _<_, _≤_}
 use lib.ListN.{length, getD, drop}
@@ -12,9 +11,6 @@ use Rattle.words.specs.Bytes.{sameBytes}
 use Rattle.records.specs.Slots.{slots, recAt, recs}
 use Rattle.expansion.specs.Nodes.{isExtractor}
 use Rattle.expansion.specs.Expansion.{Named, Extractor, Extractors, extractor, extractors}
-use Rattle.grounds.specs.declared.Judged.{Judged}
-use Rattle.grounds.specs.declared.Judged.the-variants.{Fine, Flawed}
-use Rattle.grounds.specs.Grounds.{refusal, extractorPlaces, manyGround}
 
 abbrev pub nameIn : List ℕ → ℕ → ℕ
 nameIn t x = getD t (3 * x) 0
@@ -54,8 +50,3 @@ pub record Table (text defs t : List ℕ) (n : ℕ) : Type 0 where
   pub size : length (extractors text (treesOf (recs defs))) ≡ n
   pub few : n ≤ 256
   pub long : 768 ≤ length t
-
--- what making the table answers
-unfoldable pub Tabled : List ℕ → List ℕ → Judged → Type 0
-Tabled defs t (Fine n) = ((text : List ℕ) → Table text defs t n) × (manyGround (extractorPlaces 0 (treesOf (recs defs))) ≡ none)
-Tabled defs t (Flawed f k) = (manyGround (extractorPlaces 0 (treesOf (recs defs))) ≡ some (refusal f k)) × (k < slots defs)

@@ -9,7 +9,7 @@ ghost use lib.ListN.{length, set};
 ghost use Rattle.records.specs.Slots.{slots, recAt, recs};
 ghost use Rattle.expansion.specs.Flat.{All, Placed};
 ghost use Rattle.grounds.specs.Leaves.{ExtractorPlaced};
-ghost use Rattle.grounds.specs.Table.{Tabled};
+ghost use Rattle.grounds.specs.Judging.{Tabled};
 
 fn add_row(table: &mut [u64], n: usize, name: u64, arity: u64, place: u64)
     requires { ⌜ 3 * n + 3 ≤ length (now table) ⌝ }

@@ -1,33 +1,28 @@
 -- The ways through the whole of opening. Assumes nothing.
 use mathlib.Core.Path.{_≡_, refl, sym, ap, _∙_}
-use mathlib.Core.Bool.{Bool, true, false}
-use mathlib.Core.Option.{Option, none, some}
-use mathlib.Core.List.{List, [], _∷_, _++_}
-use Prim.Native.Nat.{ℕ, zero, suc, _+_, _-_, _*_, _<_, _≤_}
-use native.Mathlib.Nat.{zero-add}
+use mathlib.Core.Bool.{true, false}
+use mathlib.Core.List.{List}
+use Prim.Native.Nat.{ℕ, _<_, _≤_}
 use native.Mathlib.Decide.{decLt}
 use native.Mathlib.Omega.{arith}
 use lib.Dec.{ltb}
-use lib.ListN.{length, getD, drop}
+use lib.ListN.{length, getD}
 use borrow.Author.Tests.{lt-ltb, le-ltb}
 use Rattle.trees.specs.Choice.{pick}
 use Rattle.trees.specs.declared.Rec.{Rec}
-use Rattle.trees.specs.Tree.{Tree, Trees, node, ∅, _▸_, firsts, records, recordsAll, treesOf}
+use Rattle.trees.specs.Tree.{∅, firsts, records, recordsAll, treesOf}
 use Rattle.records.specs.Slots.{slots, recAt, recs, writes}
-use Rattle.forms.specs.Kinds.{definition, pattern}
-use Rattle.forms.specs.Forms.{isOne, isMany}
-use Rattle.expansion.specs.Nodes.{Every, EveryIn}
-use Rattle.expansion.specs.Expansion.{Named, Extractors, extractors, openedTemplates, opened}
+use Rattle.expansion.specs.Nodes.{Every}
+use Rattle.expansion.specs.Expansion.{Extractors, openedTemplates, opened}
 use Rattle.expansion.specs.Acceptance.{TermNamed, Acceptable}
-use Rattle.expansion.specs.Flat.{openedRecords, openedAt, storeRecords, Placed, All}
+use Rattle.expansion.specs.Flat.{openedRecords, openedAt, storeRecords}
 use Rattle.expansion.proofs.FlatOpening.{opened-pattern}
 use Rattle.expansion.proofs.ListLaws.{list-named}
 use Rattle.grounds.specs.declared.Judged.{Judged}
 use Rattle.grounds.specs.declared.Judged.the-variants.{Fine, Flawed}
-use Rattle.grounds.specs.Grounds.{refusal, grounds}
+use Rattle.grounds.specs.Grounds.{refusal}
 use Rattle.grounds.specs.Opening.{treeOf, Outcome, accept, refuse, space, opening}
-use Rattle.grounds.specs.Table.{RowsOf}
-use Rattle.grounds.specs.Judging.{Shaped, Grounded}
+use Rattle.grounds.specs.Judging.{given, Low, Shaped, Grounded}
 use Rattle.grounds.proofs.Accepted.{acceptable}
 use Rattle.grounds.proofs.GroundLaws.{shaped, pattern-there}
 use Rattle.grounds.proofs.JudgeLaws.{tree-inside}
@@ -37,10 +32,10 @@ use Rattle.opening.specs.declared.Answer.the-variants.{Accepted, Refused
 use Rattle.opening.specs.Wrote.{Wrote, all, full}
 use Rattle.opening.specs.Ends.{EndsFrom}
 use Rattle.opening.specs.Made.{paramsAt}
-use Rattle.opening.specs.Walk.{Region, Ready, Room, Opened}
+use Rattle.opening.specs.Walk.{Room}
 use Rattle.opening.specs.Store.{extractorsIn, Source, Stored}
-use Rattle.opening.specs.Answers.{spaceOf, ReadyFor, PatternOpened, Accepting, answerOf, Answers}
-use Rattle.opening.proofs.WroteLaws.{wrote-store, wrote-out}
+use Rattle.opening.specs.Answers.{spaceOf, ReadyFor, PatternOpened, Accepting, Countable, answerOf, asAnswer, Begin, Answers}
+use Rattle.opening.proofs.WroteLaws.{wrote-store}
 use Rattle.opening.proofs.ReadyLaws.{fits-calls, templates-length, tree-records}
 
 -- ---- space
@@ -66,6 +61,26 @@ space-slots l s e = rw e (space-is l .0)
 
 pub space-most : (l : List ℕ) (s : ℕ) → s ≡ spaceOf l → s ≤ 65536
 space-most l s e = rw e (space-is l .1)
+
+-- ---- the answer by the outcome
+
+module _ (text defs p s o s′ o′ : List ℕ) where
+  abbrev outcome : Outcome
+  outcome = opening text (treesOf (recs defs)) (treeOf (recs p)) (spaceOf s) (spaceOf o)
+
+  answers-refused : (f k : ℕ) → outcome ≡ refuse (refusal f k) → k < 131072 → Answers text defs p s o s′ o′ (Refused f k)
+  unfolding answerOf Countable Begin
+  answers-refused f k e h = record { answer = rw e; countable = h; records = rw e tt }
+
+  answers-accepted : (T Q : List Rec) (n m : ℕ) → outcome ≡ accept T Q → n ≡ length T → m ≡ length Q → s′ ≡ writes s 0 T → o′ ≡ writes o 0 Q → n ≤ spaceOf s → m ≤ spaceOf o
+      → Answers text defs p s o s′ o′ (Accepted n m)
+  unfolding answerOf Countable Begin
+  answers-accepted T Q n m e c d w v h k =
+      record {
+        answer = rw (e, c, d);
+        countable = (omega (arith, space-most s (spaceOf s) refl), omega (arith, space-most o (spaceOf o) refl));
+        records = rw e (w, v, rw (← c) h, rw (← d) k);
+      }
 
 -- ---- where no ground holds
 
@@ -103,10 +118,10 @@ module _ (text t : List ℕ) (n : ℕ) (defs p : List ℕ) (a : Accepting text t
     over (all b c d e f g k) h = absurd (omega arith)
 
     pub store-full : sp < y → Answers text defs p s o s₁ o₁ (Refused 6 0)
-    unfolding Answers opening space
+    unfolding opening space
     store-full h =
         let l : spaceOf s < length templates = rw (← isp) (over (stored .wrote) h) in
-        (rw (a .fine, lt-ltb (spaceOf s) (length templates) l), omega arith)
+        answers-refused text defs p s o s₁ o₁ 6 0 (rw (a .fine, lt-ltb (spaceOf s) (length templates) l)) (omega arith)
 
     module _ (fits : y ≤ sp) where
       within : Wrote false sp s o 0 templates s₁ o₁ y → (y ≡ length templates) × (s₁ ≡ writes s 0 templates) × (o₁ ≡ o)
@@ -162,43 +177,35 @@ module _ (text t : List ℕ) (n : ℕ) (defs p : List ℕ) (a : Accepting text t
         out-within (all b c d e f g k) h = (omega arith, f, k)
 
         pub out-full : q < z → Answers text defs p s o s₂ o₂ (Refused 6 1)
-        unfolding Answers opening space
+        unfolding opening space
         out-full h =
             let l : length templates ≤ spaceOf s = omega (arith, within (stored .wrote) .0) in
             let m : spaceOf o < length result = rw (← iq) (out-over w h) in
-            (rw (a .fine, le-ltb (spaceOf s) (length templates) l, lt-ltb (spaceOf o) (length result) m), omega arith)
+            answers-refused text defs p s o s₂ o₂ 6 1 (rw (a .fine, le-ltb (spaceOf s) (length templates) l, lt-ltb (spaceOf o) (length result) m)) (omega arith)
 
         pub all-written : z ≤ q → Answers text defs p s o s₂ o₂ (Accepted y z)
-        unfolding Answers opening space
+        unfolding opening space
         all-written h =
             let v = within (stored .wrote) in
             let u = out-within w h in
             let l : length templates ≤ spaceOf s = omega (arith, v .0) in
-            let m : length result ≤ spaceOf o = omega (arith, u .0) in (
-              templates,
-              result,
-              rw (a .fine, le-ltb (spaceOf s) (length templates) l, le-ltb (spaceOf o) (length result) m),
-              u .2 ∙ v .1,
-              u .1 ∙ ap (λ (b : List ℕ). writes b 0 result) (v .2),
-              v .0,
-              u .0,
-              omega arith,
-              omega arith,
-            )
+            let m : length result ≤ spaceOf o = omega (arith, u .0) in
+            answers-accepted text defs p s o s₂ o₂ templates result y z
+            (rw (a .fine, le-ltb (spaceOf s) (length templates) l, le-ltb (spaceOf o) (length result) m))
+            (v .0) (u .0) (u .2 ∙ v .1) (u .1 ∙ ap (λ (b : List ℕ). writes b 0 result) (v .2)) (omega arith) (omega arith)
 
 -- ---- the grounds
 
-pub answer-refused : (text defs p t s o s′ o′ : List ℕ) (j : Judged) (f k : ℕ) → j ≡ Flawed f k → Grounded text defs p t j → slots defs ≤ 65536 → slots p ≤ 65536 → Answers text defs p s o s′ o′ (answerOf j)
-unfolding Grounded Answers opening
+pub answer-refused : (text defs p t s o s′ o′ : List ℕ) (j : Judged) (f k : ℕ) → j ≡ Flawed f k → Grounded text defs p t j → slots defs ≤ 65536 → slots p ≤ 65536 → Answers text defs p s o s′ o′ (asAnswer j)
+unfolding opening Low
 answer-refused text defs p t s o s′ o′ (Fine n) f k e g h l = absurd (let z : _≡_ {A = ℕ} 0 1 = cc in omega arith)
-answer-refused text defs p t s o s′ o′ (Flawed f′ k′) f k e g h l = (rw (g .0), omega (arith, g .1))
+answer-refused text defs p t s o s′ o′ (Flawed f′ k′) f k e g h l = answers-refused text defs p s o s′ o′ f′ k′ (rw (← (g .answers .gives))) (omega (arith, g .answers .low))
 
 pub answer-by : (text defs p s o s′ o′ : List ℕ) (a b : Answer) → a ≡ b → Answers text defs p s o s′ o′ b → Answers text defs p s o s′ o′ a
 answer-by text defs p s o s′ o′ a b e x = rw e x
 
 pub grounds-fine : (text defs p t : List ℕ) (j : Judged) (n : ℕ) → j ≡ Fine n → Grounded text defs p t j → Shaped defs p → Accepting text t n defs p
-unfolding Grounded
-grounds-fine text defs p t j n e g s = let q = rw e at g in record { shaped = s; table = q .1; fine = q .0 }
+grounds-fine text defs p t j n e g s = record { shaped = s; table = g .table n e; fine = sym (g .answers .gives) ∙ ap given e }
 
-pub refused-is : (j : Judged) (f k : ℕ) → j ≡ Flawed f k → Refused f k ≡ answerOf j
+pub refused-is : (j : Judged) (f k : ℕ) → j ≡ Flawed f k → Refused f k ≡ asAnswer j
 refused-is j f k e = rw e

@@ -19,7 +19,7 @@ ghost use Rattle.expansion.specs.Expansion.{Named};
 ghost use Rattle.expansion.specs.Flat.{Placed, All};
 ghost use Rattle.opening.specs.Walk.{Room};
 ghost use Rattle.opening.specs.Store.{Stored};
-ghost use Rattle.opening.specs.Answers.{spaceOf, ReadyFor, patternSort, PatternOpened, Accepting, Answers, answerOf};
+ghost use Rattle.opening.specs.Answers.{spaceOf, ReadyFor, patternSort, PatternOpened, Accepting, Answers, asAnswer};
 
 // The space of an output: its whole records, but at most 65,536.
 fn space_in(bytes: &[u8]) -> usize
@@ -116,7 +116,7 @@ fn open_fine(
 
 // A refusal as the answer.
 fn refusal_of(j: Judged) -> Answer
-    ensures { λ a. ⌜ a ≡ answerOf j ⌝ }
+    ensures { λ a. ⌜ a ≡ asAnswer j ⌝ }
 {
     match j {
         Judged::Fine(_) => Answer::Accepted(0, 0),

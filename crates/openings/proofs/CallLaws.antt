@@ -1,15 +1,15 @@
 -- One law for each way through a call. Assumes nothing.
-use Prim.Native.Nat.{ℕ, zero, suc, _+_, _-_, _*_, _/_, _%_, _<_, _≤_}
+use Prim.Native.Nat.{ℕ, _-_, _*_, _<_, _≤_}
 use native.Mathlib.Omega.{arith}
 use mathlib.Core.Path.{_≡_, refl, sym, ap, _∙_}
-use mathlib.Core.List.{List, [], _∷_, _++_}
+use mathlib.Core.List.{List, _++_}
 use mathlib.Core.Bool.{Bool, true, false, not}
 use lib.ListN.{length, take, replicate}
 use mir.Syntax.{w32}
 use mir.Val.{Fits}
-use borrow.Author.Tests.{not-true, not-false}
+use borrow.Author.Tests.{not-false}
 use Rattle.trees.specs.declared.Rec.{Rec}
-use Rattle.trees.specs.Tree.{Tree, Trees, treesOf}
+use Rattle.trees.specs.Tree.{treesOf}
 use Rattle.records.specs.Slots.{slots, recs, writes}
 use Rattle.records.specs.Result.{accepted, refused}
 use Rattle.records.proofs.Laws.{length-writes}
@@ -18,16 +18,16 @@ use Rattle.forms.specs.Kinds.{definition, pattern}
 use Rattle.forms.specs.Forms.{isOne, isMany}
 use Rattle.grounds.specs.Grounds.{refusal}
 use Rattle.grounds.specs.Opening.{treeOf, Outcome, accept, refuse, opening}
-use Rattle.opening.specs.Answers.{spaceOf, Answers}
+use Rattle.opening.specs.Answers.{numberOf, Countable, answerOf, spaceOf, Begin, Answers}
 use Rattle.opening.specs.declared.Answer.{Answer}
 use Rattle.opening.specs.declared.Answer.the-variants.{Accepted, Refused}
-use Rattle.opening.proofs.AnswerLaws.{space-slots, space-most}
+use Rattle.opening.proofs.AnswerLaws.{space-slots}
 use Rattle.templating.specs.Calls.{sizes, lent}
 use Rattle.templating.proofs.CallLaws.{short, lent-size, lent-first, lent-second, lent-right}
-use Rattle.openings.specs.Calls.{stopped, number, stored, written, Left, kept, Finished, Countable, Judged}
+use Rattle.openings.specs.Calls.{stopped, number, stored, written, Left, kept, storeKept, outputKept, Finished, Judged}
 
 pub stops : (code place r : ℕ) (s o s′ o′ : List ℕ) → s′ ≡ replicate (length s) 0 → o′ ≡ replicate (length o) 0 → r ≡ refused code place → Left (refuse (refusal code place)) (length s) (length o) s′ o′ r
-unfolding number stored written
+unfolding number numberOf answerOf stored written
 stops code place r s o s′ o′ a b c = record { returns = c; store = a; output = b }
 
 pub keeps : (n m r : ℕ) (s o s′ o′ : List ℕ) → s′ ≡ take (n * 24) s ++ replicate (length s - n * 24) 0 → o′ ≡ take (m * 24) o ++ replicate (length o - m * 24) 0 → r ≡ accepted m → (r ≡ accepted m) × (s′ ≡ kept n s) × (o′ ≡ kept m o)
@@ -35,12 +35,12 @@ unfolding kept
 keeps n m r s o s′ o′ a b c = (c, a, b)
 
 pub finish-kept : (a : Answer) (n m r : ℕ) (s o s′ o′ : List ℕ) → a ≡ Accepted n m → (r ≡ accepted m) × (s′ ≡ kept n s) × (o′ ≡ kept m o) → Finished a s o s′ o′ r
-unfolding Finished
-finish-kept a n m r s o s′ o′ e h = rw e h
+unfolding numberOf storeKept outputKept
+finish-kept a n m r s o s′ o′ e h = rw e (record { returns = h .0; store = h .1; output = h .2 })
 
 pub finish-refused : (a : Answer) (code place r : ℕ) (s o s′ o′ : List ℕ) → a ≡ Refused code place → Left (refuse (refusal code place)) (length s) (length o) s′ o′ r → Finished a s o s′ o′ r
-unfolding Finished
-finish-refused a code place r s o s′ o′ e h = rw e h
+unfolding number numberOf answerOf stored written storeKept outputKept
+finish-refused a code place r s o s′ o′ e h = rw e (record { returns = h .returns; store = h .store; output = h .output })
 
 pub countable-kept : (a : Answer) (n m : ℕ) → a ≡ Accepted n m → Countable a → (n ≤ 65536) × (m ≤ 65536)
 unfolding Countable
@@ -57,23 +57,24 @@ place-fits a code place e c = omega (arith, countable-place a code place e c)
 
 module _ (text defs p s o s₁ o₁ : List ℕ) where
   pub answers-countable : (a : Answer) → Answers text defs p s o s₁ o₁ a → Countable a
-  unfolding Answers Countable
-  answers-countable (Accepted n m) h = (omega (arith, h .7, space-most s (spaceOf s) refl), omega (arith, h .8, space-most o (spaceOf o) refl))
-  answers-countable (Refused f k) h = h .1
+  answers-countable a h = h .countable
 
-  cleared : (l l₁ : List ℕ) (T : List Rec) (n : ℕ) → l₁ ≡ writes l 0 T → n ≡ length T → n ≤ spaceOf l → kept n l₁ ≡ writes (replicate (length l) 0) 0 T
+  cleared : (l l₁ : List ℕ) (T : List Rec) → l₁ ≡ writes l 0 T → length T ≤ spaceOf l → kept (length T) l₁ ≡ writes (replicate (length l) 0) 0 T
   unfolding kept
-  cleared l l₁ T n w c h =
+  cleared l l₁ T w h =
       let z : length l₁ ≡ length l = ap length w ∙ length-writes T l 0 in
-      let i : n ≤ slots l = omega (arith, h, space-slots l (spaceOf l) refl) in
-      rw (z, w) (writes-cleared T l n c i)
+      let i : length T ≤ slots l = omega (arith, h, space-slots l (spaceOf l) refl) in
+      rw (z, w) (writes-cleared T l (length T) refl i)
+
+  -- what finishing the answer leaves is what the outcome leaves
+  ended : (c : Outcome) (r : ℕ) (s₂ o₂ : List ℕ) → Begin c s o s₁ o₁ → Finished (answerOf c) s₁ o₁ s₂ o₂ r → length s₁ ≡ length s → length o₁ ≡ length o → Left c (length s) (length o) s₂ o₂ r
+  unfolding number answerOf Begin storeKept outputKept stored written
+  ended (accept T Q) r s₂ o₂ (w, v, h, k) f i j = record { returns = f .returns; store = f .store ∙ cleared s s₁ T w h; output = f .output ∙ cleared o o₁ Q v k }
+  ended (refuse e) r s₂ o₂ h f i j = record { returns = f .returns; store = rw (← i) (f .store); output = rw (← j) (f .output) }
 
   pub answers-ended : (a : Answer) (r : ℕ) (s₂ o₂ : List ℕ) → Answers text defs p s o s₁ o₁ a → Finished a s₁ o₁ s₂ o₂ r → length s₁ ≡ length s → length o₁ ≡ length o
       → Left (opening text (treesOf (recs defs)) (treeOf (recs p)) (spaceOf s) (spaceOf o)) (length s) (length o) s₂ o₂ r
-  unfolding Answers Finished number stored written
-  answers-ended (Accepted n m) r s₂ o₂ (T, Q, e, w, v, c, d, h, k) (x, y, z) i j =
-      rw e (record { returns = x ∙ ap accepted d; store = y ∙ cleared s s₁ T n w c h; output = z ∙ cleared o o₁ Q m v d k })
-  answers-ended (Refused f k) r s₂ o₂ (e, q) x i j = rw (e, ← i, ← j) x
+  answers-ended a r s₂ o₂ h f i j = ended (opening text (treesOf (recs defs)) (treeOf (recs p)) (spaceOf s) (spaceOf o)) r s₂ o₂ (h .records) (rw (h .answer) at f) i j
 
 -- ---- the checks
 

@@ -1,17 +1,16 @@
 -- What isle_open answers and leaves in the store and in the output, for every input: refusals in the order 7, 1, 3, then the grounds, then 6.
-use Prim.Native.Nat.{ℕ, _-_, _*_, _<_, _≤_}
+use Prim.Native.Nat.{ℕ, _-_, _*_, _≤_}
 use mathlib.Core.Path.{_≡_}
 use mathlib.Core.Bool.{true}
 use mathlib.Core.List.{List, _++_}
 use lib.ListN.{length, take, replicate}
 use Rattle.trees.specs.Tree.{treesOf}
 use Rattle.records.specs.Slots.{slots, recs, writes}
-use Rattle.records.specs.Result.{accepted, refused}
 use Rattle.forms.specs.Kinds.{definition, pattern}
 use Rattle.forms.specs.Forms.{isOne, isMany}
 use Rattle.grounds.specs.Grounds.{refusal}
 use Rattle.grounds.specs.Opening.{treeOf, Outcome, accept, refuse, opening}
-use Rattle.opening.specs.Answers.{spaceOf}
+use Rattle.opening.specs.Answers.{spaceOf, numberOf, answerOf}
 use Rattle.opening.specs.declared.Answer.{Answer}
 use Rattle.opening.specs.declared.Answer.the-variants.{Accepted, Refused}
 use Rattle.templating.specs.Calls.{sizes, lent}
@@ -29,8 +28,7 @@ openingOf text defs patt store out =
 
 -- the number that is returned: the count is the opened pattern's alone
 unfoldable pub number : Outcome → ℕ
-number (accept templates patt) = accepted (length patt)
-number (refuse r) = refused (r .number) (r .place)
+number c = numberOf (answerOf c)
 
 -- a store of n bytes, and an output of n bytes: the records and then zeros, or all zero
 unfoldable pub stored : ℕ → Outcome → List ℕ
@@ -51,15 +49,20 @@ pub record Left (c : Outcome) (n m : ℕ) (s o : List ℕ) (r : ℕ) : Type 0 wh
 unfoldable pub kept : ℕ → List ℕ → List ℕ
 kept n l = take (n * 24) l ++ replicate (length l - n * 24) 0
 
--- what an answer leaves of a store and an output
-unfoldable pub Finished : Answer → List ℕ → List ℕ → List ℕ → List ℕ → ℕ → Type 0
-Finished (Accepted n m) s o s′ o′ r = (r ≡ accepted m) × (s′ ≡ kept n s) × (o′ ≡ kept m o)
-Finished (Refused code place) s o s′ o′ r = Left (refuse (refusal code place)) (length s) (length o) s′ o′ r
+-- what an answer leaves of a store, and of an output
+unfoldable pub storeKept : Answer → List ℕ → List ℕ
+storeKept (Accepted n m) l = kept n l
+storeKept (Refused code place) l = replicate (length l) 0
 
--- the answer's counts and place are ones that the number has space for
-unfoldable pub Countable : Answer → Type 0
-Countable (Accepted n m) = (n ≤ 65536) × (m ≤ 65536)
-Countable (Refused code place) = place < 131072
+unfoldable pub outputKept : Answer → List ℕ → List ℕ
+outputKept (Accepted n m) l = kept m l
+outputKept (Refused code place) l = replicate (length l) 0
+
+-- the number returned for an answer, and what is left
+pub record Finished (a : Answer) (s o s′ o′ : List ℕ) (r : ℕ) : Type 0 where
+  pub returns : r ≡ numberOf a
+  pub store : s′ ≡ storeKept a s
+  pub output : o′ ≡ outputKept a o
 
 -- what is known once 7, 1 and 3 are judged
 pub record Judged (text defs patt : List ℕ) : Type 0 where

@@ -16,8 +16,8 @@ ghost use Rattle.records.specs.Slots.{slots, recs};
 ghost use Rattle.records.specs.Result.{accepted};
 ghost use Rattle.grounds.specs.Grounds.{refusal};
 ghost use Rattle.grounds.specs.Opening.{treeOf, refuse, opening};
-ghost use Rattle.opening.specs.Answers.{spaceOf};
-ghost use Rattle.openings.specs.Calls.{openingOf, Left, kept, Finished, Countable, Judged};
+ghost use Rattle.opening.specs.Answers.{spaceOf, Countable};
+ghost use Rattle.openings.specs.Calls.{openingOf, Left, kept, Finished, Judged};
 
 // A refusal, and a store and an output of zeros.
 fn refuse(store: &mut [u8], out: &mut [u8], code: u8, place: u32) -> u64
