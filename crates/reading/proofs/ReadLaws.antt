@@ -1,34 +1,33 @@
 -- One law for each way through reading. Assumes nothing.
-use Prim.Native.Nat.{ℕ, zero, suc, _+_, _-_, _*_, _/_, _%_, _<_, _≤_}
+use Prim.Native.Nat.{ℕ, _-_, _*_, _/_, _%_, _<_, _≤_}
 use native.Mathlib.Omega.{arith}
-use mathlib.Core.Path.{_≡_, refl, sym, ap, subst, _∙_}
-use mathlib.Core.List.{List, [], _++_}
+use mathlib.Core.Path.{_≡_, refl, ap, _∙_}
+use mathlib.Core.List.{List, _++_}
 use mathlib.Core.Bool.{Bool, true, false}
 use lib.ListN.{length, take, replicate}
-use lib.Dec.{ltb, leb, eqb}
+use lib.Dec.{leb}
 use mir.Syntax.{w32}
 use mir.Val.{Fits}
 use borrow.Author.Tests.{lt-ltb, le-ltb, le-leb, lt-leb, eq-eqb, ne-eqb, leb-true}
-use Rattle.trees.specs.Choice.{pick, choose}
+use Rattle.trees.specs.Choice.{pick}
 use Rattle.trees.specs.Tree.{Trees, recordsAll}
 use Rattle.records.specs.Slots.{slots, writes}
 use Rattle.records.specs.Result.{accepted, refused}
-use Rattle.records.proofs.Laws.{length-writes}
 use Rattle.records.proofs.BackLaws.{writes-cleared}
 use Rattle.tokens.specs.Token.{tokenCount}
 use Rattle.tokens.specs.Lent.{firstBad}
-use Rattle.tokens.specs.Input.{Input, input, size}
+use Rattle.tokens.specs.Input.{Input, input}
 use Rattle.steps.specs.declared.Refusal.{Refusal}
 use Rattle.steps.specs.declared.Parsed.{Parsed}
 use Rattle.steps.specs.declared.Parsed.the-variants.{Accepted, Refused}
 use Rattle.steps.specs.Outcome.{Outcome, accept, refuse}
-use Rattle.steps.specs.Met.{Taken, Met, Chained, At, Ready}
+use Rattle.steps.specs.Met.{numberOf, Met, Chained, Ready}
 use Rattle.steps.proofs.SizeLaws.{ready-after}
 use Rattle.steps.proofs.StepLaws.{ready-at}
 use Rattle.parser.specs.Defs.{parseDefs}
-use Rattle.parser.specs.Reading.{Reading, done, stopped, fitted, judged, reading, number, bytes}
+use Rattle.parser.specs.Reading.{done, stopped, fitted, judged, reading, number, bytes}
 use Rattle.parser.proofs.DefLaws.{defs-steady}
-use Rattle.reading.specs.Answered.{Answered, Settled}
+use Rattle.reading.specs.Answered.{Answered, cleared, Finished, Countable, Settled}
 
 pub stops : (code place r : ℕ) (l l′ : List ℕ) → l′ ≡ replicate (length l) 0 → r ≡ refused code place → Answered (stopped code place) (length l) l′ r
 unfolding number bytes
@@ -43,53 +42,58 @@ settle-full n r l l′ h a = record { returns = rw (lt-leb n (length l / 24) h) 
 pub settle-kept : (n r : ℕ) (l l′ : List ℕ) → n ≤ length l / 24 → l′ ≡ take (n * 24) l ++ replicate (length l - n * 24) 0 → r ≡ accepted n → Settled n l l′ r
 settle-kept n r l l′ h a b = record { returns = rw (le-leb n (length l / 24) h) b; output = rw (le-leb n (length l / 24) h) a }
 
+-- ---- the end
+
+pub finish-refused : (p : Parsed) (e : Refusal) (r : ℕ) (l l′ : List ℕ) → p ≡ Refused e → Answered (stopped (e .code) (e .place)) (length l) l′ r → Finished p l l′ r
+unfolding number bytes numberOf cleared
+finish-refused p e r l l′ f a = rw f (record { returns = a .returns; output = a .output })
+
+pub finish-settled : (p : Parsed) (j n k r : ℕ) (l l′ : List ℕ) → p ≡ Accepted j n k → Settled n l l′ r → Finished p l l′ r
+unfolding numberOf cleared
+finish-settled p j n k r l l′ f t = rw f (record { returns = t .returns; output = t .output })
+
+pub countable-count : (p : Parsed) (j n k : ℕ) → p ≡ Accepted j n k → Countable p → n < 16777216
+unfolding Countable
+countable-count p j n k f c = rw f at c
+
 -- ---- good tokens
 
 pub begins : (tokens text : List ℕ) (end : ℕ) → tokenCount tokens ≤ 16384 → length text ≤ 65536 → Ready 3 (input tokens text end) (Accepted 0 0 0)
 unfolding Ready
 begins tokens text end a b = record { few = a; short = b; here = omega arith; room = omega arith; kids = omega arith; slack = omega arith }
 
-refused-met : (o : Outcome) (n k : ℕ) (l l′ : List ℕ) (e : Refusal) → Met o n k l l′ (Refused e) → o ≡ refuse e
-unfolding Met
-refused-met (accept ts j) n k l l′ e h = absurd h
-refused-met (refuse d) n k l l′ e h = ap refuse (sym h)
-
-at-first : (s : Input) (p : Parsed) (l l′ : List ℕ) → Chained (parseDefs s) (Accepted 0 0 0) l l′ p → Met (parseDefs s 0) 0 0 l l′ p
-unfolding Chained
-at-first s p l l′ h = h
-
-pub good-refused : (s : Input) (p : Parsed) (e : Refusal) (r : ℕ) (l l₁ l₂ : List ℕ) → Chained (parseDefs s) (Accepted 0 0 0) l l₁ p → length l₁ ≡ length l → p ≡ Refused e → Answered (stopped (e .code) (e .place)) (length l₁) l₂ r → Answered (fitted (slots l) (parseDefs s 0)) (length l) l₂ r
-unfolding fitted
-good-refused s p e r l l₁ l₂ h z f a = rw (refused-met (parseDefs s 0) 0 0 l l₁ e (rw f at (at-first s p l l₁ h))) (rw z at a)
-
-fits-by : (ts : Trees) (n r : ℕ) (l l₁ l₂ : List ℕ) → n ≡ length (recordsAll ts) → length l₁ ≡ length l → l₁ ≡ writes l 0 (recordsAll ts) → Settled n l₁ l₂ r → (b : Bool) → leb n (slots l) ≡ b → Answered (pick (leb (length (recordsAll ts)) (slots l)) (done ts) (stopped 6 0)) (length l) l₂ r
-unfolding number bytes
-fits-by ts n r l l₁ l₂ c z w t true e =
+fits-by : (ts : Trees) (n r : ℕ) (l l₁ l₂ : List ℕ) → n ≡ length (recordsAll ts) → length l₁ ≡ length l → l₁ ≡ writes l 0 (recordsAll ts) → (j k : ℕ) → Finished (Accepted j n k) l₁ l₂ r → (b : Bool) → leb n (slots l) ≡ b
+    → Answered (pick (leb (length (recordsAll ts)) (slots l)) (done ts) (stopped 6 0)) (length l) l₂ r
+unfolding number bytes numberOf cleared
+fits-by ts n r l l₁ l₂ c z w j k t true e =
     let y : leb n (slots l₁) ≡ true = ap (λ (x : ℕ). leb n (x / 24)) z ∙ e in
     rw (← c, e)
     (record {
       returns = t .returns ∙ rw y (ap accepted c);
       output = t .output ∙ rw (y, z, w) (writes-cleared (recordsAll ts) l n c (leb-true n (slots l) e));
     })
-fits-by ts n r l l₁ l₂ c z w t false e =
+fits-by ts n r l l₁ l₂ c z w j k t false e =
     let y : leb n (slots l₁) ≡ false = ap (λ (x : ℕ). leb n (x / 24)) z ∙ e in
     rw (← c, e) (record { returns = t .returns ∙ rw y; output = t .output ∙ rw (y, z) })
 
-settled-by : (o : Outcome) (n j k r : ℕ) (l l₁ l₂ : List ℕ) → Met o 0 0 l l₁ (Accepted j n k) → Settled n l₁ l₂ r → Answered (fitted (slots l) o) (length l) l₂ r
-unfolding Met fitted
-settled-by (accept ts x) n j k r l l₁ l₂ h t =
-    let c : n ≡ length (recordsAll ts) = omega (arith, h .counted) in
-    let z : length l₁ ≡ length l = ap length (h .wrote) ∙ length-writes (recordsAll ts) l 0 in
-    fits-by ts n r l l₁ l₂ c z (h .wrote) t (leb n (slots l)) refl
-settled-by (refuse e) n j k r l l₁ l₂ h t = absurd h
+-- what finishing the state leaves is what the outcome leaves
+met-finished : (o : Outcome) (p : Parsed) (r : ℕ) (l l₁ l₂ : List ℕ) → Met o 0 0 l l₁ p → length l₁ ≡ length l → Finished p l₁ l₂ r → Answered (fitted (slots l) o) (length l) l₂ r
+unfolding Met fitted number bytes numberOf cleared
+met-finished (accept ts x) (Accepted j n k) r l l₁ l₂ h z t = fits-by ts n r l l₁ l₂ (omega (arith, h .counted)) z (h .wrote) j k t (leb n (slots l)) refl
+met-finished (accept ts x) (Refused e) r l l₁ l₂ h z t = absurd h
+met-finished (refuse d) (Accepted j n k) r l l₁ l₂ h z t = absurd h
+met-finished (refuse d) (Refused e) r l l₁ l₂ h z t = rw (← h, ← z) (record { returns = t .returns; output = t .output })
 
-pub good-settled : (s : Input) (p : Parsed) (j n k r : ℕ) (l l₁ l₂ : List ℕ) → Chained (parseDefs s) (Accepted 0 0 0) l l₁ p → p ≡ Accepted j n k → Settled n l₁ l₂ r → Answered (fitted (slots l) (parseDefs s 0)) (length l) l₂ r
-good-settled s p j n k r l l₁ l₂ h f t = settled-by (parseDefs s 0) n j k r l l₁ l₂ (rw f at (at-first s p l l₁ h)) t
+pub good-finished : (s : Input) (p : Parsed) (r : ℕ) (l l₁ l₂ : List ℕ) → Chained (parseDefs s) (Accepted 0 0 0) l l₁ p → length l₁ ≡ length l → Finished p l₁ l₂ r → Answered (fitted (slots l) (parseDefs s 0)) (length l) l₂ r
+unfolding Chained
+good-finished s p r l l₁ l₂ h z t = met-finished (parseDefs s 0) p r l l₁ l₂ h z t
 
-pub count-below : (tokens text : List ℕ) (end : ℕ) (p : Parsed) (j n k : ℕ) (l l₁ : List ℕ) → Chained (parseDefs (input tokens text end)) (Accepted 0 0 0) l l₁ p → p ≡ Accepted j n k → tokenCount tokens ≤ 16384 → length text ≤ 65536 → n < 16777216
-count-below tokens text end p j n k l l₁ h f a b =
+pub good-countable : (tokens text : List ℕ) (end : ℕ) (p : Parsed) (l l₁ : List ℕ) → Chained (parseDefs (input tokens text end)) (Accepted 0 0 0) l l₁ p → tokenCount tokens ≤ 16384 → length text ≤ 65536 → Countable p
+unfolding Countable
+good-countable tokens text end (Refused e) l l₁ h a b = tt
+good-countable tokens text end (Accepted j n k) l l₁ h a b =
     let s = input tokens text end in
-    let w = ready-at 3 s p j n k (ready-after (parseDefs s) (Accepted 0 0 0) l l₁ p 3 s h (defs-steady s) (begins tokens text end a b)) f in
+    let w = ready-at 3 s (Accepted j n k) j n k (ready-after (parseDefs s) (Accepted 0 0 0) l l₁ (Accepted j n k) 3 s h (defs-steady s) (begins tokens text end a b)) refl in
     omega (arith, w .few, w .here, w .room)
 
 -- ---- the checks

@@ -16,7 +16,7 @@ ghost use Rattle.tokens.specs.Lent.{firstBad};
 ghost use Rattle.tokens.specs.Input.{Input, input};
 ghost use Rattle.parser.specs.Defs.{parseDefs};
 ghost use Rattle.parser.specs.Reading.{stopped, fitted, reading};
-ghost use Rattle.reading.specs.Answered.{Answered, Settled};
+ghost use Rattle.reading.specs.Answered.{Answered, Finished, Countable, Settled};
 
 // A refusal, and an output of zeros.
 fn refuse(out: &mut [u8], code: u8, place: u32) -> u64
@@ -38,6 +38,21 @@ fn settle(out: &mut [u8], n: usize) -> u64
     accepted(n as u64)
 }
 
+// The end of reading: what it leaves in the output, and what it returns.
+fn finish(out: &mut [u8], p: Parsed) -> u64
+    requires { ⌜ Countable p ⌝ }
+    ensures { λ r. ⌜ Finished p (now (out .entry)) (now (out .exit)) r ⌝ }
+{
+    match p {
+        Parsed::Refused(e) => {
+            return refuse(out, e.code, e.place);
+        }
+        Parsed::Accepted { next: _, count, items: _ } => {
+            return settle(out, count);
+        }
+    }
+}
+
 // Good tokens within the limits.
 fn read_good(tokens: &[u8], text: &[u8], end: u32, out: &mut [u8]) -> u64
     requires { ⌜ tokenCount (now tokens) ≤ 16384 ⌝ }
@@ -49,14 +64,8 @@ fn read_good(tokens: &[u8], text: &[u8], end: u32, out: &mut [u8]) -> u64
         count: 0,
         items: 0,
     };
-    match parse_defs(tokens, text, end, out, start) {
-        Parsed::Refused(e) => {
-            return refuse(out, e.code, e.place);
-        }
-        Parsed::Accepted { next: _, count, items: _ } => {
-            return settle(out, count);
-        }
-    }
+    let p = parse_defs(tokens, text, end, out, start);
+    finish(out, p)
 }
 
 // Any tokens, any text, any output.

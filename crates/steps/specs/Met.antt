@@ -2,18 +2,25 @@
 use Prim.Native.Nat.{ℕ, _+_, _*_, _≤_, _<_}
 use mathlib.Core.Path.{_≡_}
 use mathlib.Core.List.{List}
-use mathlib.Core.Bool.{Bool, true, false, not}
+use mathlib.Core.Bool.{Bool, false, not}
 use lib.ListN.{length}
-use Rattle.trees.specs.Tree.{Tree, Trees, count, recordOf, recordsAll}
+use lib.Dec.{leb}
+use Rattle.trees.specs.Choice.{pick}
+use Rattle.trees.specs.Tree.{Trees, count, recordOf, recordsAll}
 use Rattle.trees.specs.declared.Head.{Head}
 use Rattle.records.specs.Slots.{put, writes}
+use Rattle.records.specs.Result.{accepted, refused}
 use Rattle.tokens.specs.declared.Token.{Token}
 use Rattle.tokens.specs.Token.{tokenAt, pastLast, isRparen}
 use Rattle.tokens.specs.Input.{Input, size}
-use Rattle.steps.specs.declared.Refusal.{Refusal}
 use Rattle.steps.specs.declared.Parsed.{Parsed}
 use Rattle.steps.specs.declared.Parsed.the-variants.{Accepted, Refused}
 use Rattle.steps.specs.Outcome.{Outcome, accept, refuse, Reader}
+
+-- the number that document 01 gives to a state in which reading ends, with space for so many records: their count, or 6; or the refusal and its place
+unfoldable pub numberOf : ℕ → Parsed → ℕ
+numberOf space (Accepted next count items) = pick (leb count space) (accepted count) (refused 6 0)
+numberOf space (Refused e) = refused (e .code) (e .place)
 
 -- the row ts, read up to token j, stands in the output from slot n on, after k trees of its row
 pub record Taken (ts : Trees) (j n k : ℕ) (l l′ : List ℕ) (next slot items : ℕ) : Type 0 where
