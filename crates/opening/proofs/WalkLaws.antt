@@ -16,12 +16,16 @@ use Rattle.trees.specs.declared.Rec.{Rec}
 use Rattle.trees.specs.declared.Head.{Head}
 use Rattle.trees.specs.Tree.{Tree, Trees, node, ∅, _▸_, count, firsts, recordOf, records, recordsAll, treesOf}
 use Rattle.trees.specs.Names.{spelled}
+use Rattle.trees.proofs.Laws.{count-size}
 use Rattle.records.specs.Slots.{slots, recAt, recsFrom, recs}
 use Rattle.expansion.specs.Nodes.{isTerm, isMacroArg, Every, EveryIn}
-use Rattle.expansion.specs.Expansion.{Named, find}
+use Rattle.expansion.specs.Templates.{makeTemplates}
+use Rattle.expansion.specs.Expansion.{Named, find, opensBy}
 use Rattle.expansion.specs.Flat.{span, after, endOf, childAt, fill, Fits, Placed, All, calledAt, openedRecords, openedAt}
 use Rattle.expansion.proofs.NodeLaws.{some-same}
-use Rattle.expansion.proofs.SpanLaws.{span-add}
+use Rattle.expansion.proofs.TemplateLaws.{count-make}
+use Rattle.expansion.proofs.OpenLaws.{count-opens}
+use Rattle.expansion.proofs.SpanLaws.{span-add, count-firsts}
 use Rattle.expansion.proofs.FlatOpening.{opened-none}
 use Rattle.expansion.proofs.IndexLaws.{child-next, child-last, all-at, at-call}
 use Rattle.grounds.specs.Table.{looked, RowsOf}
@@ -35,7 +39,7 @@ use Rattle.opening.specs.Made.{paramsAt, MadeAt, callNumber}
 use Rattle.opening.specs.Walk.{Region, Ready, Room, Opened, Filled}
 use Rattle.opening.proofs.MadeLaws.{passed}
 use Rattle.opening.proofs.EndsLaws.{hop-inside, hop-end}
-use Rattle.opening.proofs.WroteLaws.{wrote-store, wrote-out, wrote-up, wrote-none, wrote-both, wrote-stop, take-recs, wrote-keeps}
+use Rattle.opening.proofs.WroteLaws.{wrote-store, wrote-out, wrote-up, wrote-none, wrote-both, wrote-longer, wrote-stop, take-recs, wrote-keeps}
 
 -- ---- the store below a slot stays, and so do the templates there
 
@@ -166,6 +170,13 @@ room-next outward space base s o s′ o′ m y l r h w =
 
 -- ---- opening a tree: what is left to open leads to the whole
 
+-- n trees are n records at least, opened too
+opened-size : (text : List ℕ) (S : List (Named Tree)) (ps : Trees) (rs : List Rec) (n : ℕ) → n ≤ count (treesOf rs) → n ≤ length (openedRecords text S ps rs n)
+unfolding openedRecords
+opened-size text S ps rs n h =
+    let ts : Trees = firsts n (treesOf rs) in
+    omega (arith, count-size (opensBy text S (makeTemplates text ps ts)), count-opens text S (makeTemplates text ps ts), count-make text ps ts, count-firsts n (treesOf rs) h)
+
 pub record Going (outward : Bool) (space : ℕ) (text t : List ℕ) (n : ℕ) (starts src ends : List ℕ) (pa pc : ℕ) (s₀ o₀ : List ℕ) (i m : ℕ) (s o : List ℕ) (todo k y : ℕ) (S : List (Named Tree)) : Type 0 where
   pub ready : Ready text t n starts src ends pa pc i s S
   pub room : Room outward space (getD starts n 0) s o y
@@ -216,6 +227,12 @@ module _ (outward : Bool) (space : ℕ) (text t : List ℕ) (n : ℕ) (starts sr
       pub going-small : todo ≤ 65536
       going-small = omega (arith, g .there, trees-few (drop k (recs src)), length-drop k (recs src), length-recs src, g .ready .small)
 
+      -- a record finds no space, whichever it is: there is a tree to open, and that is one record at least
+      pub going-put-full : (r : Rec) (s₁ o₁ : List ℕ) (y₁ : ℕ) → Wrote outward space s o y (r ∷ []) s₁ o₁ y₁ → space < y₁ → Wrote outward space s₀ o₀ m (openedAt text S (paramsAt src pa pc) (recs src) i 1) s₁ o₁ y₁
+      going-put-full r s₁ o₁ y₁ w h =
+          g .leads s₁ o₁ y₁ (wrote-longer outward space s o s₁ o₁ y y₁ (r ∷ []) (openedAt text S (paramsAt src pa pc) (recs src) k todo)
+          (omega (arith, opened-size text S (paramsAt src pa pc) (drop k (recs src)) todo (g .there))) h w)
+
       -- a record is written
       module _ (x : ℕ) (number : x ≡ callNumber text t n src k) (plain : x ≡ n) (made : Made) (is : MadeAt text src pa pc k made) (s₁ o₁ : List ℕ) (y₁ : ℕ) (w : Wrote outward space s o y (made .rec ∷ []) s₁ o₁ y₁) where
         opens : openedAt text S (paramsAt src pa pc) (recs src) k todo ≡ (made .rec ∷ []) ++ openedAt text S (paramsAt src pa pc) (recs src) (made .next) (todo - 1 + made .rec .count)
@@ -223,9 +240,6 @@ module _ (outward : Bool) (space : ℕ) (text t : List ℕ) (n : ℕ) (starts sr
             ap (openedAt text S (paramsAt src pa pc) (recs src) k) left-is
             ∙ is .opens S (todo - 1) (call-missing text t n starts src ends pa pc S i s (g .ready) k going-inside x number plain)
             ∙ ap (λ (c : ℕ). made .rec ∷ openedAt text S (paramsAt src pa pc) (recs src) (made .next) c) (add-comm (made .rec .count) (todo - 1))
-
-        pub going-put-full : space < y₁ → Wrote outward space s₀ o₀ m (openedAt text S (paramsAt src pa pc) (recs src) i 1) s₁ o₁ y₁
-        going-put-full h = g .leads s₁ o₁ y₁ (rw opens (wrote-stop outward space s o s₁ o₁ y y₁ (made .rec ∷ []) (openedAt text S (paramsAt src pa pc) (recs src) (made .next) (todo - 1 + made .rec .count)) h w))
 
         pub going-put : y₁ ≤ space → Going outward space text t n starts src ends pa pc s₀ o₀ i m s₁ o₁ (todo - 1 + made .rec .count) (made .next) y₁ S
         going-put h =

@@ -44,10 +44,13 @@ module _ (to : Bool) (space : ℕ) where
       (e′ ∙ ap (λ (t : List ℕ). writes t y m) e ∙ ap (λ (i : ℕ). writes (writes (target to s o) n l) i m) c ∙ sym (writes-append l m (target to s o) n))
       (f′ ∙ ap (_++ m) f ∙ append-assoc (recsFrom (target to s o) 0 n) l m) (g′ ∙ g)
 
-  -- what did not fit does not fit with more after it
+  -- where a list did not fit, no longer one does; nor the same with more after it
+  pub wrote-longer : (s o s′ o′ : List ℕ) (n y : ℕ) (l m : List Rec) → length l ≤ length m → space < y → Wrote to space s o n l s′ o′ y → Wrote to space s o n m s′ o′ y
+  wrote-longer s o s′ o′ n y l m k h (full a b c d) = full a b c (omega arith)
+  wrote-longer s o s′ o′ n y l m k h (all a b c d e f g) = absurd (omega arith)
+
   pub wrote-stop : (s o s′ o′ : List ℕ) (n y : ℕ) (l m : List Rec) → space < y → Wrote to space s o n l s′ o′ y → Wrote to space s o n (l ++ m) s′ o′ y
-  wrote-stop s o s′ o′ n y l m h (full a b c d) = full a b c (rw length-append (omega arith))
-  wrote-stop s o s′ o′ n y l m h (all a b c d e f g) = absurd (omega arith)
+  wrote-stop s o s′ o′ n y l m h w = wrote-longer s o s′ o′ n y l (l ++ m) (rw length-append (omega arith)) h w
 
   -- one record
   pub append-full : (s o : List ℕ) (n : ℕ) (r : Rec) → n ≡ space → Wrote to space s o n (r ∷ []) s o (n + 1)

@@ -84,7 +84,7 @@ open-one-same-length-2 t c = wrote-out _ _ _ _ _ _ _ _ _ (c .before .before .bef
 
 open-one-returns : (t : ℕ) → open-one-lts.Need-returns (open-one-calls t) (open-one-at t) open-one.Post open-one-Inv-loop open-one-μ-loop
 unfolding Opened
-open-one-returns t c = λ S r. going-put-full _ _ _ _ _ _ _ _ _ _ _ _ _ _ _ _ _ _ _ _ ((c .before .before .before .before .before .before .before .before .before .before .before .before .loop .inv) S r) (omega arith) _ ((c .before .before .before .before .before .before .before .before .before .before .call-at .ensures) .0) (c .before .before .before .before .before .before .before .before .before .if1 .taken) _ (c .before .before .before .before .before .before .before .before .made-at .ensures) _ _ _ (c .before .before .before .before .before .append .ensures) (c .if2 .taken)
+open-one-returns t c = λ S r. going-put-full _ _ _ _ _ _ _ _ _ _ _ _ _ _ _ _ _ _ _ _ ((c .before .before .before .before .before .before .before .before .before .before .before .before .loop .inv) S r) (omega arith) _ _ _ _ (c .before .before .before .before .before .append .ensures) (c .if2 .taken)
 
 open-one-sub-todo : (t : ℕ) → open-one-lts.Need-sub-todo (open-one-calls t) (open-one-at t) open-one.Post open-one-Inv-loop open-one-μ-loop
 open-one-sub-todo t c = search needs
