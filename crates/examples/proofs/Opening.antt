@@ -19,6 +19,7 @@ use Rattle.expansion.proofs.Examples as trees
 use Rattle.grounds.specs.Refused.{Refused, macro-arg, deep, many, flawed}
 use Rattle.grounds.specs.Opening.{treeOf, Outcome}
 use Rattle.grounds.proofs.Plain.{flawed-plainly}
+use Rattle.opening.specs.Answers.{numberOf, answerOf}
 use Rattle.openings.specs.Calls.{number}
 use Rattle.openings.specs.Meaning.{called, pattern, Meaning, ill-sized, ill-formed, ground, store-full, output-full, accepted, OpeningWorth}
 use Rattle.openings.proofs.Theorem.{worth}
@@ -43,13 +44,13 @@ numbered {text} {ds} {p} {n} {k} (flawed a b c d f) e = omega (arith, flawed-pla
 module _ {text defs patt : List ℕ} where
   unrefused : {s o : ℕ} {c : Outcome} → Meaning text defs patt s o c → refusalOf (number c) ≡ 0
       → Opens text (called text defs patt) (pattern text defs patt) × StoreOpens text (called text defs patt)
-  unfolding number
+  unfolding number numberOf answerOf
   unrefused (ill-sized n a b) e = absurd (not-refused n 0 b e)
   unrefused (ill-formed a b) e = absurd (not-refused 3 0 (λ h. omega arith) e)
-  unrefused (ground a n k b) e = absurd (not-refused n k (numbered b) e)
-  unrefused (store-full a b c) e = absurd (not-refused 6 0 (λ h. omega arith) e)
-  unrefused (output-full a b c d) e = absurd (not-refused 6 1 (λ h. omega arith) e)
-  unrefused (accepted a b c d opens templates) e = (opens, templates)
+  unrefused (ground a b n k c) e = absurd (not-refused n k (numbered c) e)
+  unrefused (store-full a b c d) e = absurd (not-refused 6 0 (λ h. omega arith) e)
+  unrefused (output-full a b c d f) e = absurd (not-refused 6 1 (λ h. omega arith) e)
+  unrefused (accepted a b c d f opens templates) e = (opens, templates)
 
   pub demand : {s o s′ o′ : List ℕ} {r : ℕ} → OpeningWorth text defs patt s o s′ o′ r → refusalOf r ≡ 0
       → Opens text (called text defs patt) (pattern text defs patt) × StoreOpens text (called text defs patt)
