@@ -32,7 +32,12 @@ pub extern "C" fn isle_read(tokens: &[u8], text: &[u8], end: u32, out: &mut [u8]
 // The template of one pattern by its parameters, a list of Idents: document 01, 'Templates'. `answer` fixes the returned number and every
 // byte of the output.
 #[no_mangle]
-pub extern "C" fn isle_make_template(text: &[u8], pattern: &[u8], params: &[u8], out: &mut [u8]) -> u64
+pub extern "C" fn isle_make_template(
+    text: &[u8],
+    pattern: &[u8],
+    params: &[u8],
+    out: &mut [u8],
+) -> u64
     ensures answer { λ r. ⌜ Ended (making (now (text .entry)) (now (pattern .entry)) (now (params .entry)) (now (out .entry))) (length (now (out .entry))) (now (out .exit)) r ⌝ }
 {
     templating::make(text, pattern, params, out)
@@ -40,7 +45,12 @@ pub extern "C" fn isle_make_template(text: &[u8], pattern: &[u8], params: &[u8],
 
 // One template with its MacroArgs replaced by the patterns at their indices. `answer` fixes the returned number and every byte of the output.
 #[no_mangle]
-pub extern "C" fn isle_substitute(text: &[u8], template: &[u8], patterns: &[u8], out: &mut [u8]) -> u64
+pub extern "C" fn isle_substitute(
+    text: &[u8],
+    template: &[u8],
+    patterns: &[u8],
+    out: &mut [u8],
+) -> u64
     ensures answer { λ r. ⌜ Ended (substituting (now (text .entry)) (now (template .entry)) (now (patterns .entry)) (now (out .entry))) (length (now (out .entry))) (now (out .exit)) r ⌝ }
 {
     templating::fill(text, template, patterns, out)
@@ -51,7 +61,13 @@ pub extern "C" fn isle_substitute(text: &[u8], template: &[u8], patterns: &[u8],
 // with none before it in the order; after an acceptance every list of single openings, anywhere and in any order, is bounded, ends in exactly these records
 // where no call is left, can otherwise be continued to them, and no step of it is refused.
 #[no_mangle]
-pub extern "C" fn isle_open(text: &[u8], defs: &[u8], pattern: &[u8], store: &mut [u8], out: &mut [u8]) -> u64
+pub extern "C" fn isle_open(
+    text: &[u8],
+    defs: &[u8],
+    pattern: &[u8],
+    store: &mut [u8],
+    out: &mut [u8],
+) -> u64
     ensures answer { λ r. ⌜ Left (openingOf (now (text .entry)) (now (defs .entry)) (now (pattern .entry)) (now (store .entry)) (now (out .entry))) (length (now (store .entry))) (length (now (out .entry))) (now (store .exit)) (now (out .exit)) r ⌝ }
     ensures meaning { λ r. ⌜ OpeningWorth (now (text .entry)) (now (defs .entry)) (now (pattern .entry)) (now (store .entry)) (now (out .entry)) (now (store .exit)) (now (out .exit)) r ⌝ }
 {

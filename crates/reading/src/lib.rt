@@ -47,7 +47,11 @@ fn finish(out: &mut [u8], p: Parsed) -> u64
         Parsed::Refused(e) => {
             return refuse(out, e.code, e.place);
         }
-        Parsed::Accepted { next: _, count, items: _ } => {
+        Parsed::Accepted {
+            next: _,
+            count,
+            items: _,
+        } => {
             return settle(out, count);
         }
     }

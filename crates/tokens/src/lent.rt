@@ -26,7 +26,11 @@ fn is_ascii(s: &[u8]) -> bool
 fn reach(text: &[u8], kind: u8) -> u64
     ensures { λ r. ⌜ r ≡ reach (now (text .entry)) kind ⌝ }
 {
-    if kind == Token::SYMBOL { text.len() as u64 } else { 0 }
+    if kind == Token::SYMBOL {
+        text.len() as u64
+    } else {
+        0
+    }
 }
 
 // A symbol's bytes are looked at only where the whole text is not below 128.
