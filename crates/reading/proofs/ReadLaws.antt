@@ -27,7 +27,7 @@ use Rattle.steps.proofs.StepLaws.{ready-at}
 use Rattle.parser.specs.Defs.{parseDefs}
 use Rattle.parser.specs.Reading.{done, stopped, fitted, judged, reading, number, bytes}
 use Rattle.parser.proofs.DefLaws.{defs-steady}
-use Rattle.reading.specs.Answered.{Answered, cleared, Finished, Countable, Settled}
+use Rattle.reading.specs.Answered.{Answered, cleared, Finished, Countable}
 
 pub stops : (code place r : ℕ) (l l′ : List ℕ) → l′ ≡ replicate (length l) 0 → r ≡ refused code place → Answered (stopped code place) (length l) l′ r
 unfolding number bytes
@@ -35,20 +35,21 @@ stops code place r l l′ a b = record { returns = b; output = a }
 
 -- ---- settling
 
-pub settle-full : (n r : ℕ) (l l′ : List ℕ) → length l / 24 < n → Answered (stopped 6 0) (length l) l′ r → Settled n l l′ r
-unfolding number bytes
+pub settle-full : (n r : ℕ) (l l′ : List ℕ) → length l / 24 < n → Answered (stopped 6 0) (length l) l′ r → Finished (Accepted 0 n 0) l l′ r
+unfolding number bytes numberOf cleared
 settle-full n r l l′ h a = record { returns = rw (lt-leb n (length l / 24) h) (a .returns); output = rw (lt-leb n (length l / 24) h) (a .output) }
 
-pub settle-kept : (n r : ℕ) (l l′ : List ℕ) → n ≤ length l / 24 → l′ ≡ take (n * 24) l ++ replicate (length l - n * 24) 0 → r ≡ accepted n → Settled n l l′ r
+pub settle-kept : (n r : ℕ) (l l′ : List ℕ) → n ≤ length l / 24 → l′ ≡ take (n * 24) l ++ replicate (length l - n * 24) 0 → r ≡ accepted n → Finished (Accepted 0 n 0) l l′ r
+unfolding numberOf cleared
 settle-kept n r l l′ h a b = record { returns = rw (le-leb n (length l / 24) h) b; output = rw (le-leb n (length l / 24) h) a }
 
--- ---- the end
+-- ---- the end, which looks at the count alone
 
 pub finish-refused : (p : Parsed) (e : Refusal) (r : ℕ) (l l′ : List ℕ) → p ≡ Refused e → Answered (stopped (e .code) (e .place)) (length l) l′ r → Finished p l l′ r
 unfolding number bytes numberOf cleared
 finish-refused p e r l l′ f a = rw f (record { returns = a .returns; output = a .output })
 
-pub finish-settled : (p : Parsed) (j n k r : ℕ) (l l′ : List ℕ) → p ≡ Accepted j n k → Settled n l l′ r → Finished p l l′ r
+pub finish-settled : (p : Parsed) (j n k r : ℕ) (l l′ : List ℕ) → p ≡ Accepted j n k → Finished (Accepted 0 n 0) l l′ r → Finished p l l′ r
 unfolding numberOf cleared
 finish-settled p j n k r l l′ f t = rw f (record { returns = t .returns; output = t .output })
 

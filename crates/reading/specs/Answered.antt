@@ -6,7 +6,6 @@ use lib.ListN.{length, take, replicate}
 use lib.Dec.{leb}
 use Rattle.trees.specs.Choice.{pick}
 use Rattle.records.specs.Slots.{slots}
-use Rattle.records.specs.Result.{accepted, refused}
 use Rattle.steps.specs.declared.Parsed.{Parsed}
 use Rattle.steps.specs.declared.Parsed.the-variants.{Accepted, Refused}
 use Rattle.steps.specs.Met.{numberOf}
@@ -31,8 +30,3 @@ pub record Finished (p : Parsed) (l l′ : List ℕ) (r : ℕ) : Type 0 where
 unfoldable pub Countable : Parsed → Type 0
 Countable (Accepted next count items) = count < 16777216
 Countable (Refused e) = Unit {0}
-
--- n records are kept with zeros after them, or 6
-pub record Settled (n : ℕ) (l l′ : List ℕ) (r : ℕ) : Type 0 where
-  pub returns : r ≡ pick (leb n (slots l)) (accepted n) (refused 6 0)
-  pub output : l′ ≡ pick (leb n (slots l)) (take (n * 24) l ++ replicate (length l - n * 24) 0) (replicate (length l) 0)

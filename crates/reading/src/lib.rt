@@ -14,9 +14,10 @@ ghost use Rattle.records.specs.Slots.{slots};
 ghost use Rattle.tokens.specs.Token.{tokenCount};
 ghost use Rattle.tokens.specs.Lent.{firstBad};
 ghost use Rattle.tokens.specs.Input.{Input, input};
+ghost use Rattle.steps.specs.declared.Parsed.the-variants.{Accepted};
 ghost use Rattle.parser.specs.Defs.{parseDefs};
 ghost use Rattle.parser.specs.Reading.{stopped, fitted, reading};
-ghost use Rattle.reading.specs.Answered.{Answered, Finished, Countable, Settled};
+ghost use Rattle.reading.specs.Answered.{Answered, Finished, Countable};
 
 // A refusal, and an output of zeros.
 fn refuse(out: &mut [u8], code: u8, place: u32) -> u64
@@ -26,10 +27,10 @@ fn refuse(out: &mut [u8], code: u8, place: u32) -> u64
     refused(code, place)
 }
 
-// n records written, and zeros after them; or 6.
+// The end where n records were read: they are kept, with zeros after them, or 6.
 fn settle(out: &mut [u8], n: usize) -> u64
     requires { ⌜ n < 16777216 ⌝ }
-    ensures { λ r. ⌜ Settled n (now (out .entry)) (now (out .exit)) r ⌝ }
+    ensures { λ r. ⌜ Finished (Accepted 0 n 0) (now (out .entry)) (now (out .exit)) r ⌝ }
 {
     if out.len() / 24 < n {
         return refuse(out, 6, 0);

@@ -15,6 +15,7 @@ use crate::tally::stop;
 use reading::read;
 use templating::fill;
 use templating::make;
+use tokens::Token;
 use words::word;
 ghost use mathlib.Core.Path.{_≡_};
 ghost use mathlib.Core.Bool.{true};
@@ -163,7 +164,7 @@ fn reading_of(head: &[u8; 24]) -> Case {
     Case {
         entry: Entry::Read,
         text: (sizes % 4294967296) as usize,
-        first: (sizes / 4294967296 * 24) as usize,
+        first: (sizes / 4294967296) as usize * Token::WIDTH,
         second: 0,
         end: (more / 4294967296) as u32,
         records: (more % 4294967296 * 24) as usize,
