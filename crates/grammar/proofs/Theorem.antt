@@ -153,11 +153,6 @@ worth-of s space n (stopped code place) m = refused m
 pub worth : (s : Input) (space n : ℕ) → Worth s space n (number (reading s space)) (bytes n (reading s space))
 worth s space n = worth-of s space n (reading s space) (meaning s space)
 
--- the number tells an acceptance from a refusal
-pub zero-if-accepted : {s : Input} {space : ℕ} {ts : Trees} → Accepted s space ts → refusalOf (number (done ts)) ≡ 0
-unfolding number result.accepted
-zero-if-accepted a = omega (arith, a .three, a .derived .list-good .limited .few)
-
 -- a refusal's number is from 1 to 27
 pub numbered : {s : Input} {space code place : ℕ} → Refused s space code place → (0 < code) × (code ≤ 27)
 numbered (too-much n) = (omega arith, omega arith)
@@ -167,6 +162,7 @@ numbered (too-deep u x) = (omega arith, omega arith)
 numbered (no-parse k u l h) = (omega arith, omega arith)
 numbered (no-space x) = (omega arith, omega arith)
 
+-- the number says that it is one
 pub positive-if-refused : {s : Input} {space code place : ℕ} → Refused s space code place → 0 < refusalOf (number (stopped code place))
 unfolding number result.refused
 positive-if-refused r = omega (arith, numbered r .0)

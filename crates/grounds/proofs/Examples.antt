@@ -1,7 +1,5 @@
 -- Refusals of opening, by computation.
 use mathlib.Core.Path.{_≡_, refl}
-use mathlib.Core.Bool.{true, false}
-use mathlib.Core.Option.{some}
 use mathlib.Core.List.{List, [], _∷_}
 use Prim.Native.Nat.{ℕ}
 use lib.ListN.{length}
@@ -18,7 +16,7 @@ use Rattle.expansion.specs.Templates.{position, standsFor, makeTemplate, substi
 use Rattle.expansion.specs.Expansion.{last, butLast, extractor, extractors, termName, template, inOrder, openBy, openTemplate, openedTemplates, opened}
 use Rattle.expansion.specs.Flat.{storeRecords}
 use Rattle.expansion.proofs.Examples.{name, var, source, definitions, Qz, swapped}
-use Rattle.grounds.specs.Grounds.{refusal, atPlace, firstFrom, callFlaw, callFlaws, nameFlaw, definitionFlaws, listFlaws, extractorPlaces, macroArgGround, depthGround, manyGround, flaws, grounds}
+use Rattle.grounds.specs.Grounds.{atPlace, firstFrom, callFlaw, callFlaws, nameFlaw, definitionFlaws, listFlaws, extractorPlaces, macroArgGround, depthGround, manyGround, flaws, grounds}
 use Rattle.grounds.specs.Opening.{Outcome, accept, refuse, space, opening}
 
 -- how many records the store and the output got, or the number and place of the refusal

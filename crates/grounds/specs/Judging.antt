@@ -2,14 +2,13 @@
 use mathlib.Core.Path.{_≡_}
 use mathlib.Core.Option.{Option, none, some}
 use mathlib.Core.List.{List, [], _∷_, _++_}
-use Prim.Native.Nat.{ℕ, suc, _+_, _-_, _<_, _≤_}
+use Prim.Native.Nat.{ℕ, _+_, _-_, _<_, _≤_}
 use lib.Dec.{eqb, ltb}
 use lib.ListN.{length, drop}
 use Rattle.trees.specs.Choice.{pick}
-use Rattle.trees.specs.declared.Rec.{Rec}
-use Rattle.trees.specs.Tree.{Tree, Trees, node, ∅, _▸_, count, firsts, headOf, treesOf}
+use Rattle.trees.specs.Tree.{Trees, ∅, _▸_, count, firsts, headOf, treesOf}
 use Rattle.records.specs.Slots.{slots, recAt, recs}
-use Rattle.expansion.specs.Expansion.{Named, Extractor, Extractors, extractors}
+use Rattle.expansion.specs.Expansion.{Extractors, extractors}
 use Rattle.expansion.specs.Flat.{span, endOf, Placed, All}
 use Rattle.grounds.specs.declared.Judged.{Judged}
 use Rattle.grounds.specs.declared.Judged.the-variants.{Fine, Flawed}

@@ -2,37 +2,34 @@
 use mathlib.Core.Path.{_≡_, refl, sym, ap, _∙_}
 use mathlib.Core.Bool.{Bool, true, false}
 use mathlib.Core.Option.{Option, none, some}
-use mathlib.Core.List.{List, [], _∷_, _++_, append-nil}
-use Prim.Native.Nat.{ℕ, zero, suc, _+_, _-_, _*_, _/_, _<_, _≤_}
-use native.Mathlib.Nat.{add-zero, zero-add, add-comm}
+use mathlib.Core.List.{List, [], _∷_, _++_}
+use Prim.Native.Nat.{ℕ, suc, _+_, _-_, _<_, _≤_}
+use native.Mathlib.Nat.{zero-add, add-comm}
 use native.Mathlib.Numerals.{add-one}
 use native.Mathlib.Omega.{arith}
 use lib.Dec.{eqb}
 use lib.ListN.{length, getD, take, drop, length-drop}
-use lib.Seq.{drop-drop}
 use borrow.Author.Tests.{eq-eqb, ne-eqb, eqb-true, eqb-false}
-use Rattle.trees.specs.Choice.{pick}
 use Rattle.trees.specs.declared.Rec.{Rec}
-use Rattle.trees.specs.declared.Head.{Head}
-use Rattle.trees.specs.Tree.{Tree, Trees, node, ∅, _▸_, count, firsts, recordOf, records, recordsAll, treesOf}
+use Rattle.trees.specs.Tree.{Tree, Trees, node, ∅, _▸_, count, firsts, records, recordsAll, treesOf}
 use Rattle.trees.specs.Names.{spelled}
 use Rattle.trees.proofs.Laws.{count-size}
 use Rattle.records.specs.Slots.{slots, recAt, recsFrom, recs}
 use Rattle.expansion.specs.Nodes.{isTerm, isMacroArg, Every, EveryIn}
 use Rattle.expansion.specs.Templates.{makeTemplates}
 use Rattle.expansion.specs.Expansion.{Named, find, opensBy}
-use Rattle.expansion.specs.Flat.{span, after, endOf, childAt, fill, Fits, Placed, All, calledAt, openedRecords, openedAt}
+use Rattle.expansion.specs.Flat.{span, endOf, childAt, fill, Fits, Placed, calledAt, openedRecords, openedAt}
 use Rattle.expansion.proofs.NodeLaws.{some-same}
 use Rattle.expansion.proofs.TemplateLaws.{count-make}
 use Rattle.expansion.proofs.OpenLaws.{count-opens}
 use Rattle.expansion.proofs.SpanLaws.{span-add, count-firsts}
 use Rattle.expansion.proofs.FlatOpening.{opened-none}
-use Rattle.expansion.proofs.IndexLaws.{child-next, child-last, all-at, at-call}
+use Rattle.expansion.proofs.IndexLaws.{child-last, all-at, at-call}
 use Rattle.grounds.specs.Table.{looked, RowsOf}
-use Rattle.grounds.proofs.At.{drop-from, here, length-recs, trees-at, end-more, end-upto}
+use Rattle.grounds.proofs.At.{drop-from, here, length-recs, trees-at, end-more}
 use Rattle.grounds.proofs.LookLaws.{found-row, missing-all}
 use Rattle.grounds.proofs.JudgeLaws.{tree-inside, trees-few, call-second}
-use Rattle.opening.specs.Wrote.{target, other, Wrote}
+use Rattle.opening.specs.Wrote.{target, Wrote}
 use Rattle.opening.specs.Ends.{EndsFrom}
 use Rattle.opening.specs.declared.made.Made.{Made}
 use Rattle.opening.specs.Made.{paramsAt, MadeAt, callNumber}

@@ -1,18 +1,17 @@
 -- Laws of appending. Assumes nothing.
-use mathlib.Core.Path.{_≡_, refl, sym, ap, ap₂, _∙_}
+use mathlib.Core.Path.{_≡_, refl, sym, ap, _∙_}
 use mathlib.Core.Bool.{Bool, true, false}
 use mathlib.Core.List.{List, [], _∷_, _++_, append-assoc, append-nil}
-use Prim.Native.Nat.{ℕ, zero, suc, _+_, _-_, _<_, _≤_}
-use native.Mathlib.Nat.{add-zero, zero-add}
+use Prim.Native.Nat.{ℕ, zero, suc, _+_, _<_, _≤_}
 use native.Mathlib.Omega.{arith}
-use lib.ListN.{length, take, drop, length-append}
+use lib.ListN.{length, take, length-append}
 use lib.Seq.{take-append-le}
 use Rattle.trees.specs.declared.Rec.{Rec}
 use Rattle.records.specs.Slots.{slots, recAt, recsFrom, put, writes}
 use Rattle.records.proofs.Laws.{writes-append, length-put}
 use Rattle.records.proofs.Reading.{length-recsFrom}
 use Rattle.records.proofs.Readback.{Small, recs-put}
-use Rattle.opening.specs.Wrote.{target, other, Wrote, all, full}
+use Rattle.opening.specs.Wrote.{target, Wrote, all, full}
 
 module _ (to : Bool) (space : ℕ) where
   pub wrote-store : (s o s′ o′ : List ℕ) (n y : ℕ) (l : List Rec) → Wrote to space s o n l s′ o′ y → length s′ ≡ length s
@@ -26,11 +25,6 @@ module _ (to : Bool) (space : ℕ) where
   pub wrote-up : (s o s′ o′ : List ℕ) (n y : ℕ) (l : List Rec) → n ≤ space → Wrote to space s o n l s′ o′ y → n ≤ y
   wrote-up s o s′ o′ n y l h (all a b c d e f g) = omega arith
   wrote-up s o s′ o′ n y l h (full a b c d) = omega arith
-
-  -- the sign is one more than the space
-  pub wrote-most : (s o s′ o′ : List ℕ) (n y : ℕ) (l : List Rec) → Wrote to space s o n l s′ o′ y → y ≤ space + 1
-  wrote-most s o s′ o′ n y l (all a b c d e f g) = omega arith
-  wrote-most s o s′ o′ n y l (full a b c d) = omega arith
 
   pub wrote-none : (s o : List ℕ) (n : ℕ) → n ≤ space → Wrote to space s o n [] s o n
   unfolding writes

@@ -6,13 +6,12 @@ use mathlib.Core.List.{List}
 use lib.Dec.{eqb}
 use lib.ListN.{length}
 use borrow.Author.Tests.{eqb-true, eqb-false}
-use Rattle.trees.specs.Tree.{treesOf}
 use Rattle.records.specs.Slots.{recs}
 use Rattle.forms.specs.Kinds.{definition}
 use Rattle.forms.specs.Forms.{isOne, isMany}
 use Rattle.expansion.proofs.ListLaws.{list-named, list-records}
-use Rattle.grounds.specs.Grounds.{refusal, grounds}
-use Rattle.grounds.specs.Opening.{Outcome, accept, refuse, opening}
+use Rattle.grounds.specs.Grounds.{grounds}
+use Rattle.grounds.specs.Opening.{Outcome, opening}
 use Rattle.grounds.proofs.Answers as answers
 use Rattle.grounds.proofs.Accepted.{opens-accepted, store-accepted}
 use Rattle.grounds.proofs.Exactly.{passed}
@@ -22,7 +21,7 @@ use Rattle.opening.specs.Answers.{spaceOf, patternSort}
 use Rattle.templating.specs.Calls.{sizes, lent}
 use Rattle.templating.proofs.CallLaws.{short}
 use Rattle.openings.specs.Calls.{stopped, openingOf, Left}
-use Rattle.openings.specs.Meaning.{definitions, pattern, called, OfKind, TreesLent, NoGround, Meaning, ill-sized, ill-formed, ground, store-full, output-full, accepted, OpeningWorth}
+use Rattle.openings.specs.Meaning.{definitions, pattern, OfKind, TreesLent, Meaning, ill-sized, ill-formed, ground, store-full, output-full, accepted, OpeningWorth}
 
 module _ (text defs patt : List ℕ) (s o : ℕ) where
   module _ (k : OfKind text defs patt) where

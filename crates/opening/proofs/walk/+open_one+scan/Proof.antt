@@ -12,7 +12,7 @@ use Rattle.expansion.specs.Flat.{span, calledAt}
 use Rattle.opening.specs.Walk.{Ready, Opened, Filled}
 use Rattle.opening.proofs.EndsLaws.{ends-later, hop-start}
 use Rattle.opening.proofs.WroteLaws.{wrote-store, wrote-out}
-use Rattle.opening.proofs.WalkLaws.{call-found, Going, going-start, going-end, going-inside, going-ready, going-small, going-put-full, going-put, going-call-full, going-call, going-call-store, going-call-out, going-less, Scanning, scanning-start, scanning-end, scanning-inside, scanning-few, scanning-there, scanning-small, scanning-ready, scanning-less, scanning-put-full, scanning-put, scanning-arg-full, scanning-arg, scanning-arg-store, scanning-arg-out}
+use Rattle.opening.proofs.WalkLaws.{call-found, Going, going-start, going-end, going-inside, going-ready, going-small, going-put-full, going-put, going-call-full, going-call, going-call-store, going-call-out, going-less, Scanning, scanning-start, scanning-end, scanning-inside, scanning-there, scanning-small, scanning-ready, scanning-less, scanning-put-full, scanning-put, scanning-arg-full, scanning-arg, scanning-arg-store, scanning-arg-out}
 use Prim.Native.Nat.{ℕ, _<_}
 use borrow.Fn.Kinds.{In}
 use borrow.Fn.PlainCycle.{Measures, is, falls, and}
