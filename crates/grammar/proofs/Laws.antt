@@ -4,16 +4,16 @@ use native.Mathlib.Omega.{arith}
 use mathlib.Core.Path.{_≡_, refl, ap}
 use mathlib.Core.List.{List}
 use mathlib.Core.Bool.{Bool, true, false}
-use lib.Dec.{leb}
+use lib.Dec.{leb, eqb}
 use borrow.Author.Tests.{leb-true}
 use Rattle.trees.specs.Choice.{pick}
 use lib.ListN.{length, length-append}
 use Rattle.trees.specs.Tree.{Tree, Trees, node, ∅, _▸_, _⧺_, records, recordsAll}
 use Rattle.tokens.specs.Input.{Input, size}
-use Rattle.grammar.specs.Lexical.{Open, Close, Symbol, Integer, At, nameAt, one}
+use Rattle.grammar.specs.Lexical.{Kind, Open, Close, Symbol, Integer, At, nameAt, one}
 use Rattle.grammar.specs.Grammar.{Optional, given, left, Modifiers, no-more, an-extern, a-nodebug, RuleName, named, unnamed, RulePriority, ranked, unranked, Part, definition, typedef, typevalue, variant, fields, field, decl, attr, attribute, extern, extractor, rule, iflet, converter, pattern, expression, letdef, name, types, list, Gram, empty, cons, d-type, d-decl, d-attr, d-extern, d-extractor, d-rule, d-convert, t-type, v-primitive, v-enum, v-struct, w-plain, w-fields, f-unit, f-struct, f-tuple, f-field, f-end, f-type, c-decl, n-name, a-attr, a-chain, a-priority, a-tag, x-constructor, x-extractor, x-const, x-template, r-rule, i-let, i-if, k-convert, p-integer, p-constant, p-wildcard, p-true, p-false, p-var, p-bind, p-and, p-term, e-integer, e-constant, e-true, e-false, e-var, e-let, e-term, l-def}
 use Rattle.grammar.specs.Depth.{deepest}
-use Rattle.grammar.proofs.Lexemes.{there}
+use Rattle.grammar.proofs.Lexemes.{there, other}
 
 -- ---- rows
 
@@ -77,15 +77,20 @@ pub data Begins (s : Input) (i : ℕ) : Type 0 where
   by-symbol : Symbol s i → Begins s i
   by-integer : Integer s i → Begins s i
 
+-- and so with a token of no other kind
+no-kind : {s : Input} {i c : ℕ} → eqb 1 c ≡ false → eqb 3 c ≡ false → eqb 4 c ≡ false → Begins s i → Kind s c i → ⊥
+no-kind e f g (by-open k) h = other k h e
+no-kind e f g (by-symbol k) h = other k h f
+no-kind e f g (by-integer k) h = other k h g
+
 pub no-close : {s : Input} {i : ℕ} → Begins s i → Close s i → ⊥
-no-close (by-open k) c = omega (arith, k .is, c .is)
-no-close (by-symbol k) c = omega (arith, k .is, c .is)
-no-close (by-integer k) c = omega (arith, k .is, c .is)
+no-close = no-kind refl refl refl
 
 pub no-at : {s : Input} {i : ℕ} → Begins s i → At s i → ⊥
-no-at (by-open k) c = omega (arith, k .is, c .is)
-no-at (by-symbol k) c = omega (arith, k .is, c .is)
-no-at (by-integer k) c = omega (arith, k .is, c .is)
+no-at = no-kind refl refl refl
+
+pub no-refused : {s : Input} {i : ℕ} → Begins s i → Kind s 6 i → ⊥
+no-refused = no-kind refl refl refl
 
 pub begun-there : {s : Input} {i : ℕ} → Begins s i → i < size s
 begun-there (by-open k) = there k (omega arith)

@@ -12,7 +12,7 @@ use Rattle.trees.specs.Tree.{Trees, ∅}
 use Rattle.trees.specs.Ast.{Ident}
 use Rattle.words.specs.Bytes.{sameBytes}
 use Rattle.words.proofs.SameLaws.{same-refl, same-eq}
-use Rattle.tokens.specs.Token.{isLparen, isRparen, isSymbol, isInt, isAt, isConst, isWord}
+use Rattle.tokens.specs.Token.{isLparen, isRparen, isSymbol, isInt, isAt, isRefused, isConst, isWord}
 use Rattle.tokens.specs.Ident.{starts, allGoOn, identRefusal}
 use Rattle.tokens.specs.Input.{Input, peek, posAt, size}
 use Rattle.tokens.proofs.TokenLaws.{kind-inside}
@@ -54,6 +54,10 @@ module _ (s : Input) where
   pub ats : Judges s isAt (At s)
   unfolding isAt
   ats = record { at = λ i. kind-tests s 5 i }
+
+  pub refuseds : Judges s isRefused (Kind s 6)
+  unfolding isRefused
+  refuseds = record { at = λ i. kind-tests s 6 i }
 
 -- ---- spellings
 

@@ -17,14 +17,14 @@ use Rattle.steps.specs.declared.Refusal.{Refusal}
 use Rattle.steps.specs.Outcome.{accept, refuse, refusal, many}
 use Rattle.exprs.specs.Expr.{parseIflet, parseIfletIf, parseIfletOrExpr, noIflet}
 use Rattle.parser.specs.Defs.{ruleName, isI64, rulePriority, ruleFlags, ruleParts, parseRule}
-use Rattle.grammar.specs.Lexical.{Open, At, Word, Short, not-negative, negative, Iffy, iffy-let, iffy}
+use Rattle.grammar.specs.Lexical.{Kind, Open, At, Word, Short, not-negative, negative, Iffy, iffy-let, iffy}
 use Rattle.grammar.specs.Grammar.{RuleName, named, unnamed, RulePriority, ranked, unranked, rule, iflet, pattern, expression, list, Gram, empty, cons, i-let, i-if, r-rule}
 use Rattle.grammar.specs.Depth.{deepest}
 use Rattle.grammar.specs.Nesting.{b-left, b-iflet, b-right, b-let-pattern, b-let-expression, b-if, Read, Nested, Deep, inside}
-use Rattle.grammar.proofs.Exact.{Exact, Tests, Nowhere, after, first, second, if-so, if-not, Among, in-item, past-item, none, token, then, up, over, holds, fails, Many, done, next, exact-iff, exact-to, exact-many, clash, same, Ground, plain, ground-to, no-refusal, same-ground}
-use Rattle.grammar.proofs.Known.{Known, known, nothings, _⊳⊳_, _⊳·_, parents, flags, nexts, _⊳↓_, _⊳⇊_, nexts↓, seconds↓, Inner, inner}
-use Rattle.grammar.proofs.Lexemes.{opens, symbols, integers, words, one-word, lparen, rparen, word, rule-ident}
-use Rattle.grammar.proofs.Laws.{least, deepest-⧺, begins, no-at}
+use Rattle.grammar.proofs.Exact.{Exact, Tests, never, Nowhere, after, first, second, if-so, if-not, Among, in-item, past-item, none, token, then, up, over, holds, fails, Many, done, next, exact-iff, exact-to, exact-many, clash, same, Ground, plain, ground-to, no-refusal, same-ground}
+use Rattle.grammar.proofs.Known.{Known, known, refusesAfter, nothings, _⊳⊳_, _⊳·_, parents, flags, nexts, seconds, _⊳↓_, _⊳⇊_, nexts↓, seconds↓, Inner, inner}
+use Rattle.grammar.proofs.Lexemes.{opens, symbols, integers, refuseds, words, one-word, lparen, rparen, word, rule-ident}
+use Rattle.grammar.proofs.Laws.{least, deepest-⧺, begins, no-at, no-refused}
 use Rattle.grammar.proofs.Rows.{item-on, no-items, one-more}
 use Rattle.grammar.proofs.Pattern.{finished, exact-pattern}
 use Rattle.grammar.proofs.Expr.{exact-expr}
@@ -32,8 +32,9 @@ use Rattle.grammar.proofs.Options.{is-true, is-false}
 
 -- ---- the name and the priority
 
+-- a name is no name where the lexer refuses the token behind it, which begins no pattern and is no priority
 pub data Called (s : Input) (i : ℕ) : Trees → ℕ → Type 0 where
-  called : {a f : ℕ} {ts : Trees} → RuleName s i a ts f → Called s i ts a
+  called : {a f : ℕ} {ts : Trees} → RuleName s i a ts f → (a ≡ i + 1 → Kind s 6 a → ⊥) → Called s i ts a
 
 pub data Weighed (s : Input) (i : ℕ) : Trees → ℕ → Type 0 where
   weighed : {a f : ℕ} {ts : Trees} → RulePriority s i a ts f → Weighed s i ts a
@@ -41,17 +42,18 @@ pub data Weighed (s : Input) (i : ℕ) : Trees → ℕ → Type 0 where
 module _ (s : Input) where
   abbrev name-shape : Known s Nowhere (ruleName s)
   unfolding ruleName
-  name-shape = nexts (symbols s) (known (rule-ident s)) nothings
+  name-shape = nexts (symbols s) (seconds (refuseds s) (refusesAfter s 3 23 (omega arith) (omega arith)) (known (rule-ident s))) nothings
 
   name-there : {i j : ℕ} {ts : Trees} → name-shape .Means i ts j → Called s i ts j
   unfolding ruleName
-  name-there (holds k (token h)) = called (named h)
-  name-there (fails n none) = called (unnamed n)
+  name-there (holds k (holds x y)) = absurd (never y)
+  name-there (holds k (fails x (token h))) = called (named h) (λ _. x)
+  name-there (fails n none) = called (unnamed n) (λ e. absurd (omega arith))
 
   name-back : {i j : ℕ} {ts : Trees} → Called s i ts j → name-shape .Means i ts j
   unfolding ruleName
-  name-back (called (named h)) = holds (h .symbol) (token h)
-  name-back (called (unnamed n)) = fails n none
+  name-back (called (named h) x) = holds (h .symbol) (fails (x refl) (token h))
+  name-back (called (unnamed n) x) = fails n none
 
   exact-name : Exact s Nowhere (ruleName s) (Called s)
   exact-name = exact-iff (name-shape .exact) (λ i ts j r. name-there r) (λ i ts j r. name-back r)
@@ -257,10 +259,10 @@ module _ (s : Input) where
 
   parts-deep : {i k : ℕ} → parts-shape 0 .Reaches i k → Deep s rule 64 i k
   unfolding ruleParts
-  parts-deep (first (first (after (then (called x) (weighed y)) n))) = inside (b-left x y) n
-  parts-deep (first (second (after (then (then (called x) (weighed y)) r) (deep-iflets ps d)))) = in-iflet x y (finished r) ps d
-  parts-deep (second (after (then (then (then (called x) (weighed y)) r) rs) (deep-iflet d))) = in-iflet x y (finished r) (record { derives = rs .derives; shallow = rs .shallow }) d
-  parts-deep (second (after (then (then (then (called x) (weighed y)) r) rs) (deep-expression m n))) = inside (b-right x y (finished r) (record { derives = rs .derives; shallow = rs .shallow }) m) n
+  parts-deep (first (first (after (then (called x z) (weighed y)) n))) = inside (b-left x y) n
+  parts-deep (first (second (after (then (then (called x z) (weighed y)) r) (deep-iflets ps d)))) = in-iflet x y (finished r) ps d
+  parts-deep (second (after (then (then (then (called x z) (weighed y)) r) rs) (deep-iflet d))) = in-iflet x y (finished r) (record { derives = rs .derives; shallow = rs .shallow }) d
+  parts-deep (second (after (then (then (then (called x z) (weighed y)) r) rs) (deep-expression m n))) = inside (b-right x y (finished r) (record { derives = rs .derives; shallow = rs .shallow }) m) n
 
   -- 24's place changes nothing in what is accepted
   parts-anywhere : Exact s (Deep s rule 64) (λ i. ruleParts s (posAt s i) i) (parts-shape 0 .reads .Means)
@@ -277,6 +279,12 @@ module _ (s : Input) where
   after-pattern empty e = no-at (begins e refl)
   after-pattern (cons p ps) e = no-at (begins p refl)
 
+  -- what stands behind a rule's name
+  behind-name : {i b g j : ℕ} {q p : Trees} → RulePriority s i b q g → Gram s pattern b j p → Kind s 6 i → ⊥
+  unfolding least
+  behind-name (ranked k h) p c = omega (arith, k .is, c .is)
+  behind-name (unranked n) p c = no-refused (begins p refl) c
+
   -- the five rows of a rule's children, one after another
   in-a-row : (n q p ts e : Trees) → (((n ⧺ q) ⧺ p) ⧺ ts) ⧺ e ≡ n ⧺ q ⧺ p ⧺ ts ⧺ e
   in-a-row n q p ts e = simp ⧺-assoc
@@ -286,20 +294,20 @@ module _ (s : Input) where
 
   rule-there : {i j : ℕ} {ts : Trees} → rule-shape .Means i ts j → Read s rule 64 i ts j
   unfolding parseRule ruleParts deepest
-  rule-there (over (then {vs = e} (then {vs = ts} (then {vs = p} (then {us = n} {vs = q} (called x) (weighed y)) r) rs) (an-expression m u))) =
+  rule-there (over (then {vs = e} (then {vs = ts} (then {vs = p} (then {us = n} {vs = q} (called x z) (weighed y)) r) rs) (an-expression m u))) =
       rw (rule-flags s x y, in-a-row n q p ts e)
       (record {
         derives = r-rule x y (r .derives) (rs .derives) (u .derives) m;
         shallow = omega (arith, name-flat s x, priority-flat s y, r .shallow, rs .shallow, u .shallow, deepest-in-a-row n q p ts e);
       })
-  rule-there (over (then (then (then (then (called x) (weighed y)) r) rs) (an-iflet u))) = absurd (rs .ends (iffy-of (u .derives)))
+  rule-there (over (then (then (then (then (called x z) (weighed y)) r) rs) (an-iflet u))) = absurd (rs .ends (iffy-of (u .derives)))
 
   rule-back : {i j : ℕ} {ts : Trees} → Gram s rule i j ts → deepest ts ≤ 64 → rule-shape .Means i ts j
   unfolding parseRule ruleParts deepest
   rule-back (r-rule {n = n} {q = q} {p = t} {ts = ts} {e = u} x y p ps e h) m =
       let a = deepest-in-a-row n q t ts u in
       rw (← rule-flags s x y, ← in-a-row n q t ts u)
-      (over (then (then (then (then (called x) (weighed y)) (record { derives = p; shallow = omega arith; stops = λ _. after-pattern ps e })) (record { derives = ps; shallow = omega arith; ends = h }))
+      (over (then (then (then (then (called x (λ _. behind-name y p)) (weighed y)) (record { derives = p; shallow = omega arith; stops = λ _. after-pattern ps e })) (record { derives = ps; shallow = omega arith; ends = h }))
       (an-expression h (record { derives = e; shallow = omega arith }))))
 
   pub exact-rule : Exact s (Deep s rule 64) (parseRule s) (Read s rule 64)

@@ -147,15 +147,15 @@ passing-by s from i e n more e′ n′ (suc f) a b c h t v =
 pub passing-on : (s : Input) (from i e n : ℕ) (more : Bool) (e′ n′ : ℕ) → Passing s from i e n → i < size s → Turned s e n i more e′ n′ → more ≡ true → (j : ℕ) → j ≡ i + 1 → Passing s from j e′ n′
 passing-on s from i e n more e′ n′ w h t v j f = rw f (passing-by s from i e n more e′ n′ (w .fuel) (w .total) (w .flags) (w .ends) h t v)
 
-stop-by : (s : Input) (from i e n : ℕ) (more : Bool) (e′ n′ f : ℕ) → from < 8589934592 → size s ≤ 16384 → f + i ≡ size s + from → modifierFlags s (size s) 0 0 from ≡ modifierFlags s f e n i → modifiersEnd s (size s) from ≡ modifiersEnd s f i → i < size s → Turned s e n i more e′ n′ → more ≡ false → ModifiedFrom s from (e + n) i
+stop-by : (s : Input) (from i e n : ℕ) (more : Bool) (e′ n′ f : ℕ) → from < 8589934592 → size s ≤ 16385 → f + i ≡ size s + from → modifierFlags s (size s) 0 0 from ≡ modifierFlags s f e n i → modifiersEnd s (size s) from ≡ modifiersEnd s f i → i < size s → Turned s e n i more e′ n′ → more ≡ false → ModifiedFrom s from (e + n) i
 stop-by s from i e n more e′ n′ zero x y a b c h t v = absurd (omega arith)
 stop-by s from i e n more e′ n′ (suc f) x y a b c h t v =
     record { flags = sym (b ∙ t .flags f ∙ rw v); ends = sym (c ∙ t .ends f ∙ rw v); near = omega arith }
 
-pub passing-stop : (s : Input) (from i e n : ℕ) (more : Bool) (e′ n′ : ℕ) → (from < 8589934592) × (size s ≤ 16384) → Passing s from i e n → i < size s → Turned s e n i more e′ n′ → more ≡ false → ModifiedFrom s from (e + n) i
+pub passing-stop : (s : Input) (from i e n : ℕ) (more : Bool) (e′ n′ : ℕ) → (from < 8589934592) × (size s ≤ 16385) → Passing s from i e n → i < size s → Turned s e n i more e′ n′ → more ≡ false → ModifiedFrom s from (e + n) i
 passing-stop s from i e n more e′ n′ z w h t v = stop-by s from i e n more e′ n′ (w .fuel) (z .0) (z .1) (w .total) (w .flags) (w .ends) h t v
 
-pub passing-end : (s : Input) (from i e n : ℕ) → Passing s from i e n → size s ≤ i → from < 8589934592 → size s ≤ 16384 → ModifiedFrom s from (e + n) i
+pub passing-end : (s : Input) (from i e n : ℕ) → Passing s from i e n → size s ≤ i → from < 8589934592 → size s ≤ 16385 → ModifiedFrom s from (e + n) i
 passing-end s from i e n w h x y =
     record { flags = sym (w .flags ∙ past-flags s (w .fuel) e n i h); ends = sym (w .ends ∙ past-ends s (w .fuel) i h); near = omega (arith, w .total) }
 
@@ -173,7 +173,7 @@ modified-at s p i n k j x next e f m′ = let m = rw f at m′ in rw e (record {
 pub from-near : (c : ℕ) (s : Input) (p : Parsed) (i n k j : ℕ) → Ready c s p → p ≡ Accepted i n k → j ≡ i + 1 → j < 8589934592
 from-near c s p i n k j h e f = let a = ready-at c s p i n k h e in omega (arith, a .few, a .here)
 
-pub few-tokens : (c : ℕ) (tokens text : List ℕ) (end : ℕ) (p : Parsed) (i n k : ℕ) → Ready c (input tokens text end) p → p ≡ Accepted i n k → tokenCount tokens ≤ 16384
+pub few-tokens : (c : ℕ) (tokens text : List ℕ) (end : ℕ) (p : Parsed) (i n k : ℕ) → Ready c (input tokens text end) p → p ≡ Accepted i n k → tokenCount tokens ≤ 16385
 few-tokens c tokens text end p i n k h e = ready-at c (input tokens text end) p i n k h e .few
 
 -- ---- passed over

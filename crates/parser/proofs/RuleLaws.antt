@@ -16,16 +16,16 @@ use Rattle.trees.specs.declared.Head.{Head}
 use Rattle.trees.specs.Ast.{Rule, Priority, flag}
 use Rattle.trees.proofs.Laws.{size-none, size-one, size-node}
 use Rattle.tokens.specs.declared.Token.{Token}
-use Rattle.tokens.specs.Token.{tokenAt, isSymbol, isInt}
+use Rattle.tokens.specs.Token.{tokenAt, isSymbol, isInt, isRefused}
 use Rattle.tokens.specs.Input.{Input, input, peek, posAt, size}
 use Rattle.steps.specs.declared.Refusal.{Refusal}
 use Rattle.steps.specs.declared.Parsed.{Parsed}
 use Rattle.steps.specs.declared.Parsed.the-variants.{Accepted, Refused}
 use Rattle.steps.proofs.Parsed.{the-type}
-use Rattle.steps.specs.Outcome.{Outcome, Reader, accept, refuse, refusal, _⊳_, flagged, nothing, ifNext, many, nameBy, refusedAs}
+use Rattle.steps.specs.Outcome.{Outcome, Reader, accept, refuse, refusal, _⊳_, flagged, nothing, refuseAfter, ifNext, ifSecond, many, nameBy, refusedAs}
 use Rattle.steps.specs.Met.{Met, Chained, Closed, Leafed, inside, tokenFor, secondFor, Flags}
 use Rattle.steps.proofs.MetLaws.{begun, leaf-met, agree, flagged-read}
-use Rattle.steps.proofs.SizeLaws.{Bounded, Sized, Steady, steady, sized-accept, sized-refuse, sized-choose, less-bounded, then-bounded, flagged-bounded, next-bounded, nothing-bounded, other-bounded, met-there, int-kinded}
+use Rattle.steps.proofs.SizeLaws.{Bounded, Sized, Steady, steady, sized-accept, sized-refuse, sized-choose, less-bounded, then-bounded, flagged-bounded, next-bounded, second-bounded, after-bounded, nothing-bounded, other-bounded, met-there, int-kinded}
 use Rattle.patterns.specs.Pattern.{parsePattern}
 use Rattle.patterns.proofs.PatternLaws.{pattern-bounded}
 use Rattle.exprs.specs.Expr.{parseIfletOrExpr, noIflet}
@@ -141,7 +141,9 @@ priority-sized s i place h false l = sized-refuse 0 0 0 s i (refusal 24 place (i
 module _ (s : Input) where
   name-bounded : Bounded 0 0 0 s (ruleName s)
   unfolding ruleName
-  name-bounded = next-bounded 0 0 0 s isSymbol (nameBy s (refusedAs 23) (λ w. w)) nothing (steady 1 2 s (nameBy s (refusedAs 23) (λ w. w)) (other-bounded s 23)) (nothing-bounded s)
+  name-bounded =
+      next-bounded 0 0 0 s isSymbol (ifSecond s isRefused (refuseAfter s 3 23) (nameBy s (refusedAs 23) (λ w. w))) nothing
+      (second-bounded 0 0 0 s isRefused (refuseAfter s 3 23) (nameBy s (refusedAs 23) (λ w. w)) (after-bounded 0 0 0 s 3 23) (steady 1 2 s (nameBy s (refusedAs 23) (λ w. w)) (other-bounded s 23))) (nothing-bounded s)
 
   pub rule-name-steady : Steady s (ruleName s)
   rule-name-steady = name-bounded

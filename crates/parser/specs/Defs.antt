@@ -7,7 +7,7 @@ use Rattle.trees.specs.Choice.{pick, choose}
 use Rattle.trees.specs.Tree.{node, ∅, _▸_, head}
 use Rattle.trees.specs.Ast.{Decl, Attr, AttrKind·Chain, AttrKind·Priority, AttrKind·Tag, Extern·Constructor, Extern·Extractor, Extern·Const, Extractor, Rule, Priority, Converter, flag}
 use Rattle.tokens.specs.declared.Token.{Token}
-use Rattle.tokens.specs.Token.{isSymbol, isInt, isWord}
+use Rattle.tokens.specs.Token.{isSymbol, isInt, isRefused, isWord}
 use Rattle.tokens.specs.Input.{Input, peek, posAt, size}
 use Rattle.steps.specs.Keywords.{word-pragma, word-type, word-decl, word-attr, word-rule, word-extractor, word-extern, word-convert, word-spec, word-macro, word-state, word-model, word-form, word-instantiate, word-pure, word-multi, word-partial, word-rec, word-veri, word-tag, word-chain, word-priority, word-constructor, word-infallible, word-const}
 use Rattle.steps.specs.Outcome.{Reader, accept, refuse, refusal, _⊳_, parent, flagged, bare, nothing, refuseAt, refuseAfter, ifNext, ifSecond, many, row, expect-lparen, expect-rparen, expect-word, ate, eat, nameBy, refusedAs, pragmaRefusal, parseIdent, parseConst}
@@ -94,9 +94,12 @@ parseEtor s = parent s Extractor 0 (etorHead s ⊳ parsePattern s 64)
 
 -- ---- rules
 
--- the first symbol after `rule` is its name; 23 stands for 13 to 15
+-- the first symbol after `rule` is its name; 23 stands for 13 to 15, and for 40 where the lexer refuses the token behind it
 unfoldable pub ruleName : Input → Reader
-ruleName s = ifNext s isSymbol (nameBy s (refusedAs 23) (λ w. w)) nothing
+ruleName s =
+    ifNext s isSymbol
+    (ifSecond s isRefused (refuseAfter s 3 23) (nameBy s (refusedAs 23) (λ w. w)))
+    nothing
 
 -- a 128-bit integer, its halves, within 64 bits with a sign
 unfoldable pub isI64 : ℕ → ℕ → Bool

@@ -10,7 +10,9 @@ use steps::inside;
 use steps::next_token;
 use steps::parse_name_or;
 use steps::put_leaf;
+use steps::refuse_after;
 use steps::second_token;
+use tokens::Token;
 use trees::Head;
 ghost use mathlib.Core.Path.{_≡_};
 ghost use mathlib.Core.Bool.{true};
@@ -23,13 +25,17 @@ ghost use Rattle.patterns.specs.Pattern.{parsePattern};
 ghost use Rattle.parser.specs.RuleSteps.{refusedAt};
 ghost use Rattle.parser.specs.Defs.{ruleName, isI64, rulePriority, ruleFlags, ruleParts, parseRule};
 
-// The first symbol after `rule` is its name.
+// The first symbol after `rule` is its name, and a refusal of the token behind it is one of the name.
 fn rule_name(tokens: &[u8], text: &[u8], end: u32, out: &mut [u8], p: Parsed) -> Parsed
     requires { ⌜ Ready 4 (input (now tokens) (now text) end) p ⌝ }
     ensures { λ r. ⌜ Chained (ruleName (input (now (tokens .entry)) (now (text .entry)) end)) p (now (out .entry)) (now (out .exit)) r ⌝ }
 {
     let t = next_token(tokens, end, p);
     if t.is_symbol() {
+        let u = second_token(tokens, end, p);
+        if u.is_refused() {
+            return refuse_after(tokens, text, end, p, Token::SYMBOL, 23);
+        }
         return parse_name_or(tokens, text, end, out, p, 23);
     }
     p

@@ -256,7 +256,7 @@ fn modifier(tokens: &[u8], text: &[u8], end: u32, at: usize, e: u8, n: u8) -> Tu
 
 // The modifiers from an index on.
 fn modifiers_from(tokens: &[u8], text: &[u8], end: u32, from: usize) -> Modifiers
-    requires { ⌜ (from < 8589934592) × (tokenCount (now tokens) ≤ 16384) ⌝ }
+    requires { ⌜ (from < 8589934592) × (tokenCount (now tokens) ≤ 16385) ⌝ }
     ensures { λ r. ⌜ ModifiedFrom (input (now (tokens .entry)) (now (text .entry)) end) from (r .flags) (r .next) ⌝ }
 {
     let mut at = from;

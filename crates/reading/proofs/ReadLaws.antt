@@ -59,7 +59,7 @@ countable-count p j n k f c = rw f at c
 
 -- ---- good tokens
 
-pub begins : (tokens text : List ℕ) (end : ℕ) → tokenCount tokens ≤ 16384 → length text ≤ 65536 → Ready 3 (input tokens text end) (Accepted 0 0 0)
+pub begins : (tokens text : List ℕ) (end : ℕ) → tokenCount tokens ≤ 16385 → length text ≤ 65536 → Ready 3 (input tokens text end) (Accepted 0 0 0)
 unfolding Ready
 begins tokens text end a b = record { few = a; short = b; here = omega arith; room = omega arith; kids = omega arith; slack = omega arith }
 
@@ -78,7 +78,7 @@ fits-by ts n r l l₁ l₂ c z w j k t false e =
     rw (← c, e) (record { returns = t .returns ∙ rw y; output = t .output ∙ rw (y, z) })
 
 -- what finishing the state leaves is what the outcome leaves
-met-finished : (o : Outcome) (p : Parsed) (r : ℕ) (l l₁ l₂ : List ℕ) → Met o 0 0 l l₁ p → length l₁ ≡ length l → Finished p l₁ l₂ r → Answered (fitted (slots l) o) (length l) l₂ r
+pub met-finished : (o : Outcome) (p : Parsed) (r : ℕ) (l l₁ l₂ : List ℕ) → Met o 0 0 l l₁ p → length l₁ ≡ length l → Finished p l₁ l₂ r → Answered (fitted (slots l) o) (length l) l₂ r
 unfolding Met fitted number bytes numberOf cleared
 met-finished (accept ts x) (Accepted j n k) r l l₁ l₂ h z t = fits-by ts n r l l₁ l₂ (omega (arith, h .counted)) z (h .wrote) j k t (leb n (slots l)) refl
 met-finished (accept ts x) (Refused e) r l l₁ l₂ h z t = absurd h
@@ -89,7 +89,7 @@ pub good-finished : (s : Input) (p : Parsed) (r : ℕ) (l l₁ l₂ : List ℕ) 
 unfolding Chained
 good-finished s p r l l₁ l₂ h z t = met-finished (parseDefs s 0) p r l l₁ l₂ h z t
 
-pub good-countable : (tokens text : List ℕ) (end : ℕ) (p : Parsed) (l l₁ : List ℕ) → Chained (parseDefs (input tokens text end)) (Accepted 0 0 0) l l₁ p → tokenCount tokens ≤ 16384 → length text ≤ 65536 → Countable p
+pub good-countable : (tokens text : List ℕ) (end : ℕ) (p : Parsed) (l l₁ : List ℕ) → Chained (parseDefs (input tokens text end)) (Accepted 0 0 0) l l₁ p → tokenCount tokens ≤ 16385 → length text ≤ 65536 → Countable p
 unfolding Countable
 good-countable tokens text end (Refused e) l l₁ h a b = tt
 good-countable tokens text end (Accepted j n k) l l₁ h a b =

@@ -20,7 +20,7 @@ ghost use Rattle.parser.specs.Reading.{stopped, fitted, reading};
 ghost use Rattle.reading.specs.Answered.{Answered, Finished, Countable};
 
 // A refusal, and an output of zeros.
-fn refuse(out: &mut [u8], code: u8, place: u32) -> u64
+pub fn refuse(out: &mut [u8], code: u8, place: u32) -> u64
     ensures { λ r. ⌜ Answered (stopped code place) (length (now (out .entry))) (now (out .exit)) r ⌝ }
 {
     clear(out);
@@ -40,7 +40,7 @@ fn settle(out: &mut [u8], n: usize) -> u64
 }
 
 // The end of reading: what it leaves in the output, and what it returns.
-fn finish(out: &mut [u8], p: Parsed) -> u64
+pub fn finish(out: &mut [u8], p: Parsed) -> u64
     requires { ⌜ Countable p ⌝ }
     ensures { λ r. ⌜ Finished p (now (out .entry)) (now (out .exit)) r ⌝ }
 {
@@ -58,9 +58,9 @@ fn finish(out: &mut [u8], p: Parsed) -> u64
     }
 }
 
-// Good tokens within the limits.
+// Good tokens within the limits of the parser.
 fn read_good(tokens: &[u8], text: &[u8], end: u32, out: &mut [u8]) -> u64
-    requires { ⌜ tokenCount (now tokens) ≤ 16384 ⌝ }
+    requires { ⌜ tokenCount (now tokens) ≤ 16385 ⌝ }
     requires { ⌜ length (now text) ≤ 65536 ⌝ }
     ensures { λ r. ⌜ Answered (fitted (slots (now (out .entry))) (parseDefs (input (now (tokens .entry)) (now (text .entry)) end) 0)) (length (now (out .entry))) (now (out .exit)) r ⌝ }
 {

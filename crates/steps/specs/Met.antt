@@ -94,9 +94,10 @@ goesOn stop (Refused e) = false
 abbrev pub endsAt : List ℕ → ℕ → ℕ → Bool
 endsAt tokens end i = isRparen (tokenAt tokens end i)
 
--- what a parse function may count on: the limits of document 01, and at most three records for each token, c more allowed
+-- what a parse function may count on: the limits of document 01, with one record behind the tokens where the lexer stops, and at most three records for
+-- each token, c more allowed
 pub record At (c : ℕ) (s : Input) (i n k : ℕ) : Type 0 where
-  pub few : size s ≤ 16384
+  pub few : size s ≤ 16385
   pub short : length (s .text) ≤ 65536
   pub here : i ≤ size s
   pub room : n ≤ 3 * i + c

@@ -48,6 +48,13 @@ isInt t = eqb (t .kind) 4
 unfoldable pub isAt : Token → Bool
 isAt t = eqb (t .kind) 5
 
+-- no token: the lexer stops here, because it refuses what comes next (6) or because there are too many (7). Such a record is never lent
+unfoldable pub isRefused : Token → Bool
+isRefused t = eqb (t .kind) 6
+
+unfoldable pub isTooMany : Token → Bool
+isTooMany t = eqb (t .kind) 7
+
 -- a symbol that starts with `$`
 unfoldable pub isConst : List ℕ → Token → Bool
 isConst text t = pick (eqb (t .kind) 3) (eqb (getD (spelled text (t .word1)) 0 0) 36) false

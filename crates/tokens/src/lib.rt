@@ -8,7 +8,7 @@ use words::word;
 ghost use mathlib.Core.Path.{_≡_};
 ghost use Prim.Native.Nat.{ℕ, _+_, _≤_, _<_};
 ghost use lib.ListN.{length};
-ghost use Rattle.tokens.specs.Token.{tokenCount, tokenAt, kindAt, isLparen, isRparen, isSymbol, isInt, isAt, isConst, isWord};
+ghost use Rattle.tokens.specs.Token.{tokenCount, tokenAt, kindAt, isLparen, isRparen, isSymbol, isInt, isAt, isRefused, isTooMany, isConst, isWord};
 
 // A token by value, as the Rust's lookahead. Past the last token the kind is NONE and the position that of the end.
 pub struct Token {
@@ -27,6 +27,10 @@ impl Token {
     pub const SYMBOL: u8 = 3;
     pub const INT: u8 = 4;
     pub const AT: u8 = 5;
+
+    // Kinds that are never lent: what stands behind the tokens of a text where the lexer refuses the next one, and where there is one too many.
+    pub const REFUSED: u8 = 6;
+    pub const TOO_MANY: u8 = 7;
 
     pub fn is_lparen(self) -> bool
         ensures { λ r. ⌜ r ≡ isLparen self ⌝ }
@@ -56,6 +60,18 @@ impl Token {
         ensures { λ r. ⌜ r ≡ isAt self ⌝ }
     {
         self.kind == Token::AT
+    }
+
+    pub fn is_refused(self) -> bool
+        ensures { λ r. ⌜ r ≡ isRefused self ⌝ }
+    {
+        self.kind == Token::REFUSED
+    }
+
+    pub fn is_too_many(self) -> bool
+        ensures { λ r. ⌜ r ≡ isTooMany self ⌝ }
+    {
+        self.kind == Token::TOO_MANY
     }
 
     // Whether the token is a symbol that starts with `$`.

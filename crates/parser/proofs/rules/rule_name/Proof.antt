@@ -1,4 +1,5 @@
-use Rattle.steps.proofs.MetLaws.{next-yes, next-no, nothing-read}
+use Rattle.steps.proofs.MetLaws.{next-yes, next-no, second-yes, second-no, refusing-after, nothing-read}
+use Rattle.steps.proofs.SizeLaws.{near-ready}
 use Rattle.parser.specs.Defs.{ruleName}
 use borrow.Author.Needs.{needs}
 use Rattle.parser.proofs.rules.rule_name.Statement.{statement}
@@ -10,19 +11,32 @@ next-token-requires c κs = search needs
 is-symbol-requires : tie.Need-is-symbol-requires
 is-symbol-requires c κs = search needs
 
-parse-name-or-requires : tie.Need-parse-name-or-requires
-parse-name-or-requires c κs = search needs
+second-token-requires : tie.Need-second-token-requires
+second-token-requires c κs = search near-ready
+
+is-refused-requires : tie.Need-is-refused-requires
+is-refused-requires c κs = search needs
+
+refuse-after-requires : tie.Need-refuse-after-requires
+refuse-after-requires c κs = search near-ready
 
 same-length : tie.Need-same-length
 same-length c = search needs
 
 returns : tie.Need-returns
 unfolding ruleName
-returns c = next-yes _ _ _ _ _ _ _ _ _ _ _ _ (c .before .before .before .before .before .before .next-token .ensures) (c .before .before .before .before .before .is-symbol .ensures) (c .before .before .before .before .if1 .taken) (c .before .before .parse-name-or .ensures)
+returns c = next-yes _ _ _ _ _ _ _ _ _ _ _ _ (c .before .before .before .before .before .before .next-token .ensures) (c .before .before .before .before .before .is-symbol .ensures) (c .before .before .before .before .if1 .taken) (second-yes _ _ _ _ _ _ _ _ _ _ _ _ (c .before .before .before .second-token .ensures) (c .before .before .is-refused .ensures) (c .before .if2 .taken) (refusing-after _ _ _ _ _ _ (c .refuse-after .ensures)))
+
+parse-name-or-requires : tie.Need-parse-name-or-requires
+parse-name-or-requires c κs = search needs
 
 returns-2 : tie.Need-returns-2
 unfolding ruleName
-returns-2 c = next-no _ _ _ _ _ _ _ _ _ _ _ _ (c .before .before .next-token .ensures) (c .before .is-symbol .ensures) (c .if1 .left) (nothing-read _ _ )
+returns-2 c = next-yes _ _ _ _ _ _ _ _ _ _ _ _ (c .before .before .before .before .before .before .before .before .before .next-token .ensures) (c .before .before .before .before .before .before .before .before .is-symbol .ensures) (c .before .before .before .before .before .before .before .if1 .taken) (second-no _ _ _ _ _ _ _ _ _ _ _ _ (c .before .before .before .before .before .before .second-token .ensures) (c .before .before .before .before .before .is-refused .ensures) (c .before .before .before .before .if2 .left) (c .before .before .parse-name-or .ensures))
+
+returns-3 : tie.Need-returns-3
+unfolding ruleName
+returns-3 c = next-no _ _ _ _ _ _ _ _ _ _ _ _ (c .before .before .next-token .ensures) (c .before .is-symbol .ensures) (c .if1 .left) (nothing-read _ _)
 
 pub rule-name-spec : {M : Type 1} → statement M
 rule-name-spec =
@@ -30,7 +44,11 @@ rule-name-spec =
     (tie.spec
     next-token-requires
     is-symbol-requires
+    second-token-requires
+    is-refused-requires
+    refuse-after-requires
+    returns
     parse-name-or-requires
     same-length
-    returns
-    returns-2)
+    returns-2
+    returns-3)
