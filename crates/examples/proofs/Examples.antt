@@ -31,7 +31,7 @@ use Rattle.grounds.specs.Grounds.{atPlace, firstFrom, callFlaw, callFlaws, name
 use Rattle.grounds.specs.Opening.{treeOf, space, opening}
 use Rattle.opening.specs.Answers.{spaceOf, numberOf, answerOf}
 use Rattle.openings.specs.Calls as opens
-use Rattle.examples.specs.Text.{bytes}
+use Rattle.lexer.specs.Quoted.{bytes}
 use Rattle.examples.specs.Calls.{comesTo, filled, meant, said, outcomes, expected}
 use Rattle.examples.specs.Examples.{rec, sheet, text, B, xy, B-made, source, PQ, Qz, PQ-opened, Qz-opened, table}
 

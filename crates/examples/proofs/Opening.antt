@@ -23,7 +23,7 @@ use Rattle.opening.specs.Answers.{numberOf, answerOf}
 use Rattle.openings.specs.Calls.{number}
 use Rattle.openings.specs.Meaning.{called, pattern, Meaning, ill-sized, ill-formed, ground, store-full, output-full, accepted, OpeningWorth}
 use Rattle.openings.proofs.Theorem.{worth}
-use Rattle.examples.specs.Text.{bytes}
+use Rattle.lexer.specs.Quoted.{bytes}
 use Rattle.examples.specs.Calls.{isle-open, lent, answer, comesTo, accepts, filled, meant, said, outcomes, expected}
 use Rattle.examples.specs.Examples.{rec, source, PQ, Qz, PQ-opened, Qz-opened, table}
 use Rattle.examples.proofs.Examples.{as-written}

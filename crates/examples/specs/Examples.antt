@@ -6,7 +6,7 @@ use lib.ListN.{length}
 use Rattle.trees.specs.Ast.{Decl, Extractor, Rule, Priority, Identifier, Pattern·Var, Pattern·Bind, Pattern·Term, Pattern·Wildcard, Pattern·And, Pattern·MacroArg, Expr·Var}
 use Rattle.words.specs.Words.{be4, be8}
 use Rattle.exprs.specs.Examples.{tok, sym}
-use Rattle.examples.specs.Text.{bytes}
+use Rattle.lexer.specs.Quoted.{bytes}
 use Rattle.examples.specs.Calls.{Call, isle-read, isle-make-template, isle-substitute, isle-open, _at_, accepts, Case, _gives_}
 
 -- ---- tokens, by their position
