@@ -10,7 +10,7 @@ ghost use Rattle.tokens.specs.Token.{tokenCount};
 ghost use Rattle.tokens.specs.Lent.{ascii, reach, goodValue, goodWords, goodToken, firstBad};
 
 // Whether all bytes are below 128. It goes on to the end in any case, so that the compiler takes many bytes at once.
-fn is_ascii(s: &[u8]) -> bool
+pub fn is_ascii(s: &[u8]) -> bool
     ensures { λ r. ⌜ r ≡ ascii (now (s .entry)) ⌝ }
 {
     let mut highest = 0;

@@ -1,0 +1,2 @@
+pub mod TextReading
+pub mod Looked
