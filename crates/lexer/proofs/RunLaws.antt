@@ -1,9 +1,12 @@
 -- How a text is lexed, as a relation: where it stops, that there is one way, and where its tokens lie. Assumes nothing.
-use Prim.Native.Nat.{ℕ, zero, suc, _+_, _≤_}
+use Prim.Native.Nat.{ℕ, zero, suc, _+_, _-_, _≤_}
 use native.Mathlib.Omega.{arith}
 use mathlib.Core.Path.{_≡_, refl, sym, ap, _∙_}
 use mathlib.Core.List.{List, [], _∷_, _++_, append-nil}
+use mathlib.Core.Bool.{Bool, true, false}
 use lib.ListN.{length, length-append}
+use lib.Dec.{leb}
+use borrow.Author.Tests.{leb-true, leb-false}
 use Rattle.tokens.specs.declared.Token.{Token}
 use Rattle.lexer.specs.declared.Lexed.{Lexed}
 use Rattle.lexer.specs.declared.Lexed.the-variants.{Found, Refused, End}
@@ -76,23 +79,56 @@ module _ (text : List ℕ) where
   front (more {j = j} {t = t} e l) (more {j = n} {t = u} f r) h =
       further-more (same-token t u j n (sym e ∙ f)) (front l (rw (same-next t u j n (sym e ∙ f)) r) (omega arith))
 
-  -- of a run that goes on until no token is made, every run is a front
-  to-stop : {i k m : ℕ} {ts us : List Token} → Lexes text i ts k → Lexes text i us m → Still (nextToken text m) → Further text ts us k m
-  to-stop {us = us} none r h = record { rest = us; joined = refl; goes = r }
-  to-stop {i = i} (more {j = j} {t = t} e l) none h = absurd (no-token (nextToken text i) t j h e)
-  to-stop (more {j = j} {t = t} e l) (more {j = n} {t = u} f r) h =
-      further-more (same-token t u j n (sym e ∙ f)) (to-stop l (rw (same-next t u j n (sym e ∙ f)) r) h)
-
   none-left : {k m : ℕ} {rest : List Token} → Still (nextToken text k) → Lexes text k rest m → (rest ≡ []) × (k ≡ m)
   none-left h none = (refl, refl)
   none-left {k = k} h (more {j = j} {t = t} e l) = absurd (no-token (nextToken text k) t j h e)
 
+  no-further : {k m : ℕ} {ts us : List Token} → Still (nextToken text k) → Further text ts us k m → (us ≡ ts) × (k ≡ m)
+  no-further {ts = ts} h f = let z = none-left h (f .goes) in (f .joined ∙ ap (ts ++_) (z .0) ∙ append-nil ts, z .1)
+
   -- two runs from i that go on until no token is made are one
-  pub one-run : {i k m : ℕ} {ts us : List Token} → Lexes text i ts k → Still (nextToken text k) → Lexes text i us m → Still (nextToken text m) → (ts ≡ us) × (k ≡ m)
-  one-run {ts = ts} l g r h =
-      let f = to-stop l r h in
-      let z = none-left g (f .goes) in
-      (sym (f .joined ∙ ap (ts ++_) (z .0) ∙ append-nil ts), z .1)
+  pub one-run : {i k m : ℕ} {ts us : List Token} (r q : Lexed) → Still r → Still q → Lexes text i ts k → nextToken text k ≡ r → Lexes text i us m → nextToken text m ≡ q → (ts ≡ us) × (k ≡ m)
+  one-run {k = k} {m = m} {ts = ts} {us = us} r q g h l e v f = go (leb (length ts) (length us)) refl
+    where
+      go : (b : Bool) → leb (length ts) (length us) ≡ b → (ts ≡ us) × (k ≡ m)
+      go true p = let z = no-further (rw e g) (front l v (leb-true (length ts) (length us) p)) in (sym (z .0), z .1)
+      go false p = let z = no-further (rw f h) (front v l (omega (arith, leb-false (length ts) (length us) p))) in (z .0, sym (z .1))
+
+-- ---- and it stops in one way
+
+module _ (text : List ℕ) where
+  -- the tokens of a run come first
+  run-first : {i k : ℕ} {ts : List Token} (n m : ℕ) → n ≡ m + length ts → Lexes text i ts k → tokensFrom text n i ≡ ts ++ tokensFrom text m k
+  unfolding tokensFrom thenFrom
+  run-first n m h none = let e : n ≡ m = omega arith in rw e
+  run-first zero m h (more e l) = absurd (omega arith)
+  run-first (suc n) m h (more {t = t} e l) = rw e (ap (t ∷_) (run-first n m (omega arith) l))
+
+  none-at-end : (n k : ℕ) → nextToken text k ≡ End → tokensFrom text n k ≡ []
+  unfolding tokensFrom thenFrom lastOf
+  none-at-end zero k e = rw e
+  none-at-end (suc n) k e = rw e
+
+  six-refused : (n k p : ℕ) → nextToken text k ≡ Refused p → tokensFrom text n k ≡ token 6 p 0 0 ∷ []
+  unfolding tokensFrom thenFrom lastOf
+  six-refused zero k p e = rw e
+  six-refused (suc n) k p e = rw e
+
+  seven-found : (k j : ℕ) (t : Token) → nextToken text k ≡ Found t j → tokensFrom text 0 k ≡ token 7 (t .pos) 0 0 ∷ []
+  unfolding tokensFrom lastOf
+  seven-found k j t e = rw e
+
+  only-from : {n i : ℕ} {us : List Token} → StopsFrom text n i us → us ≡ tokensFrom text n i
+  only-from {n = n} (at-end {ts = ts} {k = k} l f b) =
+      sym (run-first n (n - length ts) (omega arith) l ∙ ap (ts ++_) (none-at-end (n - length ts) k f) ∙ append-nil ts)
+  only-from {n = n} (refused {ts = ts} {k = k} {p = p} l f b q) =
+      q ∙ sym (run-first n (n - length ts) (omega arith) l ∙ ap (ts ++_) (six-refused (n - length ts) k p f))
+  only-from {n = n} (too-many {ts = ts} {t = t} {j = j} {k = k} l f b q) =
+      q ∙ sym (run-first n 0 (omega arith) l ∙ ap (ts ++_) (seven-found k j t f))
+
+-- what stops so is how the text is lexed
+pub stops-only : (text : List ℕ) (us : List Token) → Stops text us → us ≡ lexed text
+stops-only text us s = only-from text s
 
 -- ---- where the tokens of a run lie
 
