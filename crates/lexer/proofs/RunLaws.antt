@@ -12,8 +12,7 @@ use Rattle.lexer.specs.declared.Lexed.{Lexed}
 use Rattle.lexer.specs.declared.Lexed.the-variants.{Found, Refused, End}
 use Rattle.lexer.specs.Lexer.{token, nextToken}
 use Rattle.lexer.specs.Text.{lastOf, thenFrom, tokensFrom, lexed, Lexes, none, more, StopsFrom, at-end, refused, too-many, Stops, Still, Further}
-use Rattle.lexer.specs.Ranges.{Apart, All, Proper, Spelled}
-use Rattle.lexer.specs.Ranges as ranges
+use Rattle.lexer.specs.Ranges.{Apart, no-more, behind, All, Proper, Spelled}
 use Rattle.lexer.proofs.RangeLaws.{found-inside, refused-inside, found-proper}
 
 -- ---- where the lexer stops
@@ -134,8 +133,8 @@ stops-only text us s = only-from text s
 
 module _ (text : List ℕ) where
   pub apart : {i k : ℕ} {ts : List Token} → Lexes text i ts k → Apart text i ts
-  apart none = ranges.none
-  apart {i = i} (more {j = j} {t = t} e l) = ranges.more (found-inside text i t j e) (apart l)
+  apart none = no-more
+  apart {i = i} (more {j = j} {t = t} e l) = behind (found-inside text i t j e) (apart l)
 
   -- each token takes a byte
   pub takes : {i k : ℕ} {ts : List Token} → Lexes text i ts k → i + length ts ≤ k
