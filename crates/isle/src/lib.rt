@@ -8,6 +8,7 @@ ghost use Rattle.records.specs.Result.{refusalOf};
 ghost use Rattle.tokens.specs.Input.{Input, input};
 ghost use Rattle.parser.specs.Reading.{reading};
 ghost use Rattle.reading.specs.Answered.{Answered};
+ghost use Rattle.texts.specs.TextReading.{textReading};
 ghost use Rattle.grammar.specs.Meaning.{Worth};
 ghost use Rattle.closed.specs.Closed.{Closed};
 ghost use Rattle.templating.specs.Calls.{Ended, making, substituting};
@@ -27,6 +28,14 @@ pub extern "C" fn isle_read(tokens: &[u8], text: &[u8], end: u32, out: &mut [u8]
     ensures closed { λ r. ⌜ (refusalOf r ≡ 0 → Closed (input (now (tokens .entry)) (now (text .entry)) end) r (now (out .exit))) ⌝ }
 {
     reading::read(tokens, text, end, out)
+}
+
+// The records of the definitions that the text is, or one refusal with its place. `answer` fixes the returned number and every byte of the output.
+#[no_mangle]
+pub extern "C" fn isle_read_text(text: &[u8], out: &mut [u8]) -> u64
+    ensures answer { λ r. ⌜ Answered (textReading (now (text .entry)) (slots (now (out .entry)))) (length (now (out .entry))) (now (out .exit)) r ⌝ }
+{
+    texts::read_text(text, out)
 }
 
 // The template of one pattern by its parameters, a list of Idents: document 01, 'Templates'. `answer` fixes the returned number and every
