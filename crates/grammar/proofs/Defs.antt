@@ -79,10 +79,10 @@ module _ (s : Input) where
       seconds (words s word-veri)
       (known (lparen s) ⊳· word s word-veri
       ⊳⊳ nexts (words s word-chain) (bares AttrKind·Chain (known (word s word-chain)))
-      (nexts (words s word-priority) (bares AttrKind·Priority (known (word s word-priority))) (refusesAfter s 3 21 (omega arith) (omega arith))) ⊳· rparen s)
+      (nexts (words s word-priority) (bares AttrKind·Priority (known (word s word-priority))) (refusesAfter s 3 21 (omega arith) (omega arith) (λ _. refl))) ⊳· rparen s)
       (seconds (words s word-tag)
       (known (lparen s) ⊳· word s word-tag ⊳⊳ bares AttrKind·Tag (known (ident s)) ⊳· rparen s)
-      (known (lparen s) ⊳⊳ refusesAfter s 3 20 (omega arith) (omega arith)))
+      (known (lparen s) ⊳⊳ refusesAfter s 3 20 (omega arith) (omega arith) (λ _. refl)))
 
   attribute-there : {i j : ℕ} {ts : Trees} → attribute-shape .Means i ts j → Read s attribute 64 i ts j
   unfolding parseAttrKind parseAttrKindVeri deepest _⧺_
@@ -128,7 +128,7 @@ module _ (s : Input) where
       (nexts (words s word-extractor)
       (flags s Extern·Extractor (λ i. ate s word-infallible (i + 1) - (i + 1)) (known (word s word-extractor) ⊳⊳ known (exact-eat s word-infallible) ⊳⊳ known (ident s) ⊳⊳ known (ident s)))
       (nexts (words s word-const) (known (word s word-const) ⊳⊳ parents s Extern·Const 0 (known (constant s) ⊳⊳ known (ident s)))
-      (refuses s 22 (omega arith) (omega arith))))
+      (refuses s 22 (omega arith) (omega arith) (λ z. omega arith))))
 
   extern-there : {i j : ℕ} {ts : Trees} → extern-shape .Means i ts j → Read s extern 64 i ts j
   unfolding parseExtern deepest _⧺_
@@ -202,8 +202,8 @@ module _ (s : Input) where
       ⊳↓ parents s Extractor 0 (known (lparen s) ⊳⊳ known (ident s) ⊳⊳ known (names s 64) ⊳· rparen s ⊳↓ known (exact-pattern s 64)) ⊳· rparen s)
       (quiet (seconds (words s word-extern) (worded word-extern (known exact-extern))
       (seconds (words s word-convert) (worded word-convert (known exact-converter))
-      (seconds (by-test (isUncovered (s .text))) (known (lparen s) ⊳⊳ refusesAfter s 3 27 (omega arith) (omega arith))
-      (known (lparen s) ⊳⊳ refusesAfter s 3 12 (omega arith) (omega arith))))))))))))
+      (seconds (by-test (isUncovered (s .text))) (known (lparen s) ⊳⊳ refusesAfter s 3 27 (omega arith) (omega arith) (λ _. refl))
+      (known (lparen s) ⊳⊳ refusesAfter s 3 12 (omega arith) (omega arith) (λ _. refl))))))))))))
 
   def-there : {i j : ℕ} {ts : Trees} → def-shape .reads .Means i ts j → Read s definition 64 i ts j
   unfolding parseDef restDef otherDef parseEtor etorHead deepest _⧺_

@@ -6,6 +6,7 @@ use native.Mathlib.Omega.{arith}
 use mathlib.Core.Path.{_≡_, refl, ap, subst, _∙_}
 use mathlib.Core.Bool.{Bool, true, false}
 use lib.Dec.{eqb}
+use borrow.Author.Tests.{eqb-true}
 use Rattle.trees.specs.Choice.{pick, choose}
 use Rattle.trees.specs.Tree.{Trees, node, ∅, _▸_, _⧺_, count, head}
 use Rattle.trees.specs.declared.Head.{Head}
@@ -13,6 +14,7 @@ use Rattle.trees.proofs.Laws.{⧺-none}
 use Rattle.tokens.specs.declared.Token.{Token}
 use Rattle.tokens.specs.Input.{Input, peek, posAt}
 use Rattle.steps.specs.declared.Refusal.{Refusal}
+use Rattle.grammar.specs.Lexical.{Symbol}
 use Rattle.steps.specs.Outcome.{Outcome, accept, refuse, Reader, refusal, before, andThen, _⊳_, nodeOf, parent, flagged, bare, leaf, nothing, refuseFrom, refuseAt, refuseAfter, ifNext, ifSecond, unexpected, thenAt, itemsFrom, manyAt, many, expectAt}
 
 abbrev pub Rel : Type 1
@@ -22,10 +24,10 @@ Rel = ℕ → Trees → ℕ → Type 0
 abbrev pub Reach : Type 1
 Reach = ℕ → ℕ → Type 0
 
--- why and where: the depth at a token of D, or one of document 01's numbers from 10 to 27 at any token
+-- why and where: the depth at a token of D, or one of document 01's numbers from 10 to 27 at any token, 23 at a symbol
 pub data Ground (s : Input) (D : ℕ → Type 0) (e : Refusal) : Type 0 where
   deep : (k : ℕ) → D k → e .code ≡ 8 → e .place ≡ posAt s k → Ground s D e
-  plain : (k : ℕ) → 10 ≤ e .code → e .code ≤ 27 → e .place ≡ posAt s k → Ground s D e
+  plain : (k : ℕ) → 10 ≤ e .code → e .code ≤ 27 → (e .code ≡ 23 → Symbol s k) → e .place ≡ posAt s k → Ground s D e
 
 pub record Exact (s : Input) (D : Reach) (f : Reader) (R : Rel) : Type 0 where
   pub sound : (i : ℕ) {ts : Trees} {j : ℕ} → f i ≡ accept ts j → R i ts j
@@ -39,7 +41,7 @@ exact-iff r f g = record { sound = λ i {ts} {j} e. f i ts j (r .sound i e); com
 -- the depth is met at no other tokens than these
 pub ground-to : {s : Input} {D E : ℕ → Type 0} {e : Refusal} → ((k : ℕ) → D k → E k) → Ground s D e → Ground s E e
 ground-to f (deep k x c p) = deep k (f k x) c p
-ground-to f (plain k l h p) = plain k l h p
+ground-to f (plain k l h n p) = plain k l h n p
 
 pub exact-to : {s : Input} {D E : Reach} {f : Reader} {R : Rel} → ((i k : ℕ) → D i k → E i k) → Exact s D f R → Exact s E f R
 exact-to to r = record { sound = r .sound; complete = r .complete; ground = λ i e z. ground-to (to i) (r .ground i e z) }
@@ -152,25 +154,25 @@ unfolding unexpected
 unexpected-ground s i {D} = go (eqb (peek s i .kind) 0)
   where
     go : (b : Bool) → Ground s D (refusal (pick b 11 10) (posAt s i) i)
-    go true = plain i (omega arith) (omega arith) refl
-    go false = plain i (omega arith) (omega arith) refl
+    go true = plain i (omega arith) (omega arith) (λ z. absurd (omega arith)) refl
+    go false = plain i (omega arith) (omega arith) (λ z. absurd (omega arith)) refl
 
-pub exact-refuseAfter : (s : Input) (kind code : ℕ) {D : Reach} → 10 ≤ code → code ≤ 27 → Exact s D (refuseAfter s kind code) Never
+pub exact-refuseAfter : (s : Input) (kind code : ℕ) {D : Reach} → 10 ≤ code → code ≤ 27 → (code ≡ 23 → kind ≡ 3) → Exact s D (refuseAfter s kind code) Never
 unfolding refuseAfter
-exact-refuseAfter s kind code {D} l h =
+exact-refuseAfter s kind code {D} l h n =
     record {
       sound = λ i e. absurd (go (eqb (peek s i .kind) kind) (refusal code (posAt s i) (i + 1)) (unexpected (peek s i) i) e);
       complete = λ i x. absurd (never x);
-      ground = λ i e z. why (eqb (peek s i .kind) kind) (refusal code (posAt s i) (i + 1)) (unexpected (peek s i) i) (plain i l h refl) (unexpected-ground s i) z;
+      ground = λ i e z. why i (eqb (peek s i .kind) kind) refl z;
     }
   where
     go : (b : Bool) (x y : Refusal) {ts : Trees} {j : ℕ} → choose b (λ _. refuse x) (λ _. refuse y) ≡ accept ts j → ⊥
     go true x y e = clash e
     go false x y e = clash e
 
-    why : {E : ℕ → Type 0} (b : Bool) (x y : Refusal) {e : Refusal} → Ground s E x → Ground s E y → choose b (λ _. refuse x) (λ _. refuse y) ≡ refuse e → Ground s E e
-    why true x y g f z = same-ground z g
-    why false x y g f z = same-ground z f
+    why : (i : ℕ) {e : Refusal} (b : Bool) → eqb (peek s i .kind) kind ≡ b → choose b (λ _. refuse (refusal code (posAt s i) (i + 1))) (λ _. refuse (unexpected (peek s i) i)) ≡ refuse e → Ground s (D i) e
+    why i true p z = same-ground z (plain i l h (λ q. record { is = eqb-true (peek s i .kind) kind p ∙ n q }) refl)
+    why i false p z = same-ground z (unexpected-ground s i)
 
 pub exact-nothing : {s : Input} {D : Reach} → Exact s D nothing (Nothing (λ _. ∅))
 unfolding nothing

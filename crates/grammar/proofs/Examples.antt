@@ -103,7 +103,7 @@ two-in = go (exact-pattern bound 2 .ground 3 (refusal 8 13 7) met)
   where
     go : Ground bound (Nested bound pattern 2 3) (refusal 8 13 7) → (k : ℕ) × Nested bound pattern 2 3 k × (13 ≡ posAt bound k)
     go (deep k x c p) = (k, x, p)
-    go (plain k l h p) = absurd (omega arith)
+    go (plain k l h n p) = absurd (omega arith)
 
 -- the `x` begins the rule's pattern, so the `y` is inside two patterns of the list
 begun : Begins bound (list definition) pattern 0 3

@@ -61,7 +61,7 @@ module _ (s : Input) (d : ℕ) (ih : Exact s (Nested s expression d) (parseExpr 
       (nexts (words s word-false) (leaves s (plain Expr·ConstBool 0))
       (nexts (symbols s) (parents s Expr·Var 0 (known (ident s)))
       (nexts (integers s) (leaves s constInt)
-      (refuses s 26 (omega arith) (omega arith)))))))))
+      (refuses s 26 (omega arith) (omega arith) (λ z. omega arith)))))))))
 
   there : {i j : ℕ} {ts : Trees} → shape .reads .Means i ts j → Read s expression (suc d) i ts j
   unfolding exprIn parseExprInnerParens letInside deepest _⧺_

@@ -1,6 +1,6 @@
 -- The combinators again, with the relation found by them: a reader, and what it is exact for. Assumes nothing.
 use Prim.Native.Nat.{ℕ, _+_, _≤_}
-use mathlib.Core.Path.{refl}
+use mathlib.Core.Path.{_≡_, refl}
 use mathlib.Core.Bool.{Bool}
 use Rattle.trees.specs.Tree.{node, ∅, _▸_, head}
 use Rattle.trees.specs.declared.Head.{Head}
@@ -16,11 +16,11 @@ pub record Known (s : Input) (D : Reach) (f : Reader) : Type 1 where
 abbrev pub known : {s : Input} {D : Reach} {f : Reader} {R : Rel} → Exact s D f R → Known s D f
 known {R = R} e = record { Means = R; exact = e }
 
-abbrev pub refuses : (s : Input) (code : ℕ) {D : Reach} → 10 ≤ code → code ≤ 27 → Known s D (refuseAt s code)
-refuses s code l h = record { Means = Never; exact = exact-refuseAt s code (λ i. plain i l h refl) }
+abbrev pub refuses : (s : Input) (code : ℕ) {D : Reach} → 10 ≤ code → code ≤ 27 → (code ≡ 23 → ⊥) → Known s D (refuseAt s code)
+refuses s code l h n = record { Means = Never; exact = exact-refuseAt s code (λ i. plain i l h (λ z. absurd (n z)) refl) }
 
-abbrev pub refusesAfter : (s : Input) (kind code : ℕ) {D : Reach} → 10 ≤ code → code ≤ 27 → Known s D (refuseAfter s kind code)
-refusesAfter s kind code l h = record { Means = Never; exact = exact-refuseAfter s kind code l h }
+abbrev pub refusesAfter : (s : Input) (kind code : ℕ) {D : Reach} → 10 ≤ code → code ≤ 27 → (code ≡ 23 → kind ≡ 3) → Known s D (refuseAfter s kind code)
+refusesAfter s kind code l h n = record { Means = Never; exact = exact-refuseAfter s kind code l h n }
 
 abbrev pub nothings : {s : Input} {D : Reach} → Known s D nothing
 nothings = record { Means = Nothing (λ _. ∅); exact = exact-nothing }

@@ -129,16 +129,16 @@ module _ {s : Input} {judge : List ℕ → ℕ} {P : ℕ → Type 0} (range : �
   met i true p e = judged i (judge (spelling s i)) refl (symbols s .at i .yes p) (eqb (judge (spelling s i)) 0) refl e
   met i false p e = absurd (clash e)
 
-  judged-ground : {D : ℕ → Type 0} (i c : ℕ) {e : Refusal} → ((c ≡ 0 → ⊥) → (10 ≤ c) × (c ≤ 27)) → (b : Bool) → eqb c 0 ≡ b
+  judged-ground : {D : ℕ → Type 0} (i c : ℕ) {e : Refusal} → Symbol s i → ((c ≡ 0 → ⊥) → (10 ≤ c) × (c ≤ 27)) → (b : Bool) → eqb c 0 ≡ b
       → pick b (accept (Tree-at i) (i + 1)) (refuse (refusal c (posAt s i) (i + 1))) ≡ refuse e → Ground s D e
-  judged-ground i c g true q z = absurd (no-refusal z)
-  judged-ground i c g false q z = let l = g (eqb-false c 0 q) in same-ground z (plain i (l .0) (l .1) refl)
+  judged-ground i c k g true q z = absurd (no-refusal z)
+  judged-ground i c k g false q z = let l = g (eqb-false c 0 q) in same-ground z (plain i (l .0) (l .1) (λ _. k) refl)
 
-  met-ground : {D : ℕ → Type 0} (i : ℕ) {e : Refusal} (b : Bool)
+  met-ground : {D : ℕ → Type 0} (i : ℕ) {e : Refusal} (b : Bool) → isSymbol (peek s i) ≡ b
       → choose b (λ _. identAt (peek s i .pos) (range (peek s i .word1)) (judge (spelling s i)) i) (λ _. refuse (unexpected (peek s i) i)) ≡ refuse e → Ground s D e
   unfolding identAt
-  met-ground i true z = judged-ground i (judge (spelling s i)) (n .ground (spelling s i)) (eqb (judge (spelling s i)) 0) refl z
-  met-ground i false z = same-ground z (unexpected-ground s i)
+  met-ground i true p z = judged-ground i (judge (spelling s i)) (symbols s .at i .yes p) (n .ground (spelling s i)) (eqb (judge (spelling s i)) 0) refl z
+  met-ground i false p z = same-ground z (unexpected-ground s i)
 
   symbol-true : (i : ℕ) → Symbol s i → isSymbol (peek s i) ≡ true
   unfolding isSymbol
@@ -150,7 +150,7 @@ module _ {s : Input} {judge : List ℕ → ℕ} {P : ℕ → Type 0} (range : �
 
   pub exact-name : {D : Reach} → Exact s D (nameBy s judge range) (One P Tree-at)
   unfolding nameBy
-  exact-name = record { sound = λ i e. met i (isSymbol (peek s i)) refl e; complete = λ i x. back i x; ground = λ i e z. met-ground i (isSymbol (peek s i)) z }
+  exact-name = record { sound = λ i e. met i (isSymbol (peek s i)) refl e; complete = λ i x. back i x; ground = λ i e z. met-ground i (isSymbol (peek s i)) refl z }
 
 rule-sound : (b : List ℕ) → identRefusal b ≡ 0 → Identifier b
 unfolding identRefusal

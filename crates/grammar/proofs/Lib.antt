@@ -3,6 +3,7 @@ pub mod Exact
 pub mod Known
 pub mod Lexemes
 pub mod Laws
+pub mod TokenKinds
 pub mod Rows
 pub mod Pattern
 pub mod Expr

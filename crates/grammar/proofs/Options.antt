@@ -128,7 +128,7 @@ exact-modifiers s {D} = record { sound = λ i e. go i (isSymbol (peek s (modifie
   where
     why : (i : ℕ) {e : Refusal} (b : Bool)
         → choose b (λ _. refuse (refusal 18 (posAt s (modifiersEnd s (size s) i + 1)) (modifiersEnd s (size s) i + 1))) (λ _. accept ∅ (modifiersEnd s (size s) i)) ≡ refuse e → Ground s (D i) e
-    why i true z = same-ground z (plain (modifiersEnd s (size s) i + 1) (omega arith) (omega arith) refl)
+    why i true z = same-ground z (plain (modifiersEnd s (size s) i + 1) (omega arith) (omega arith) (λ q. absurd (omega arith)) refl)
     why i false z = absurd (no-refusal z)
 
     go : (i : ℕ) {ts : Trees} {j : ℕ} (b : Bool) → isSymbol (peek s (modifiersEnd s (size s) i)) ≡ b

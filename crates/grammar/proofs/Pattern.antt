@@ -81,7 +81,7 @@ module _ (s : Input) (d : ℕ) (ih : Exact s (Nested s pattern d) (parsePattern 
       (seconds↓ (words s word-and)
       (parents s Pattern·And 0 (known (lparen s) ⊳· word s word-and ⊳↓ known patterns ⊳· rparen s))
       (parents s Pattern·Term 0 (known (lparen s) ⊳⊳ known (ident s) ⊳↓ known patterns ⊳· rparen s)))
-      (quiet (refuses s 25 (omega arith) (omega arith))))))))))
+      (quiet (refuses s 25 (omega arith) (omega arith) (λ z. omega arith))))))))))
 
   there : {i j : ℕ} {ts : Trees} → shape .reads .Means i ts j → Stopped s (suc d) i ts j
   unfolding patternIn compound deepest oneEnds _⧺_

@@ -42,7 +42,7 @@ pub data Weighed (s : Input) (i : ℕ) : Trees → ℕ → Type 0 where
 module _ (s : Input) where
   abbrev name-shape : Known s Nowhere (ruleName s)
   unfolding ruleName
-  name-shape = nexts (symbols s) (seconds (refuseds s) (refusesAfter s 3 23 (omega arith) (omega arith)) (known (rule-ident s))) nothings
+  name-shape = nexts (symbols s) (seconds (refuseds s) (refusesAfter s 3 23 (omega arith) (omega arith) (λ _. refl)) (known (rule-ident s))) nothings
 
   name-there : {i j : ℕ} {ts : Trees} → name-shape .Means i ts j → Called s i ts j
   unfolding ruleName
@@ -93,7 +93,7 @@ module _ (s : Input) where
   priority-ground : (start i : ℕ) {e : Refusal} (a b : Bool)
       → choose a (λ _. pick b (accept (node (head Priority 0 0 (peek s i .word2) 0) ∅ ▸ ∅) (i + 1)) (refuse (refusal 24 (posAt s start) (i + 1)))) (λ _. accept ∅ i) ≡ refuse e → Ground s (Nowhere i) e
   priority-ground start i true true z = absurd (no-refusal z)
-  priority-ground start i true false z = same-ground z (plain start (omega arith) (omega arith) refl)
+  priority-ground start i true false z = same-ground z (plain start (omega arith) (omega arith) (λ q. absurd (omega arith)) refl)
   priority-ground start i false b z = absurd (no-refusal z)
 
   exact-priority : (start : ℕ) → Exact s Nowhere (rulePriority s (posAt s start)) (Weighed s)

@@ -107,7 +107,7 @@ module _ (s : Input) (space : ℕ) where
   -- a refusal of the parser, by its ground
   by-ground : {e : Refusal} → Underived s → Ground s (Deep s (list definition) 64 0) e → Refused s space (e .code) (e .place)
   by-ground u (deep k x c p) = rw (c, p) (too-deep u x)
-  by-ground u (plain k l h p) = rw p (no-parse k u l h)
+  by-ground u (plain k l h n p) = rw p (no-parse k u l h)
 
   good-list : GoodList s → (o : Outcome) → parseDefs s 0 ≡ o → Meaning s space (fitted space o)
   unfolding fitted

@@ -141,7 +141,7 @@ module _ (s : Input) (d : ℕ) where
       seconds (words s word-primitive) (parents s TypeValue·Primitive 0 (known (lparen s) ⊳· word s word-primitive ⊳⊳ known (ident s) ⊳· rparen s))
       (seconds (words s word-enum) (parents s TypeValue·Enum 0 (known (lparen s) ⊳· word s word-enum ⊳⊳ known variants ⊳· rparen s))
       (seconds (words s word-struct) (parents s TypeValue·Struct 0 (known (lparen s) ⊳· word s word-struct ⊳⊳ known exact-fields ⊳· rparen s))
-      (refusesAfter s 1 19 (omega arith) (omega arith))))
+      (refusesAfter s 1 19 (omega arith) (omega arith) (λ z. absurd (omega arith)))))
 
   value-there : {i j : ℕ} {ts : Trees} → value-shape .Means i ts j → Read s typevalue d i ts j
   unfolding parseTypevalue deepest _⧺_
