@@ -2,3 +2,7 @@
 pub mod Combinators
 pub mod Steps
 pub mod Rows
+pub mod Patterns
+pub mod Exprs
+pub mod Types
+pub mod Defs
