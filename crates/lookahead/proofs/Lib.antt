@@ -1,4 +1,4 @@
--- That a refusal depends on no token behind the next one.
+-- That a refusal depends on no token behind the next one. The theorem is in Theorem.antt.
 pub mod Combinators
 pub mod Steps
 pub mod Rows
@@ -6,3 +6,6 @@ pub mod Patterns
 pub mod Exprs
 pub mod Types
 pub mod Defs
+pub mod Bytes
+pub mod Theorem
+pub mod Examples
