@@ -69,13 +69,13 @@ exact-eat s w = record { sound = λ i e. same (Eats s w i) e (eats (optional-at 
 
 -- ---- the modifiers of a type
 
-record Modified (s : Input) (i j : ℕ) : Type 0 where
+pub record Modified (s : Input) (i j : ℕ) : Type 0 where
   e : ℕ
   n : ℕ
-  modifiers : Modifiers s i j e n
+  pub modifiers : Modifiers s i j e n
 
 -- what the reader passes over are modifiers
-passed-over : (s : Input) (f i : ℕ) → Modified s i (modifiersEnd s f i)
+pub passed-over : (s : Input) (f i : ℕ) → Modified s i (modifiersEnd s f i)
 unfolding modifiersEnd
 passed-over s zero i = record { e = 0; n = 0; modifiers = no-more }
 passed-over s (suc f) i = go (isWord (s .text) word-extern (peek s i)) (isWord (s .text) word-nodebug (peek s i)) refl refl (passed-over s f (i + 1))

@@ -11,49 +11,60 @@ use Rattle.tokens.specs.Input.{Input, peek}
 use Rattle.grammar.specs.Lexical.{Kind, Symbol, Word, Name}
 use Rattle.grammar.specs.Grammar.{Optional, given, left, Modifiers, no-more, an-extern, a-nodebug, RuleName, named, unnamed, RulePriority, ranked, unranked, Part, Gram, empty, cons, d-type, d-decl, d-attr, d-extern, d-extractor, d-rule, d-convert, t-type, v-primitive, v-enum, v-struct, w-plain, w-fields, f-unit, f-struct, f-tuple, f-field, f-end, f-type, c-decl, n-name, a-attr, a-chain, a-priority, a-tag, x-constructor, x-extractor, x-const, x-template, r-rule, i-let, i-if, k-convert, p-integer, p-constant, p-wildcard, p-true, p-false, p-var, p-bind, p-and, p-term, e-integer, e-constant, e-true, e-false, e-var, e-let, e-term, l-def}
 
--- the tokens from i up to j are of kinds up to 5
+-- j is not before i, and the tokens from i up to j are of kinds from 1 to 5
 pub record Tokens (s : Input) (i j : ℕ) : Type 0 where
+  pub on : i ≤ j
+  pub at-least : (k : ℕ) → i ≤ k → k < j → 1 ≤ peek s k .kind
   pub at-most : (k : ℕ) → i ≤ k → k < j → peek s k .kind ≤ 5
 
-nothing : {s : Input} {i : ℕ} → Tokens s i i
-nothing = record { at-most = λ k a b. absurd (omega arith) }
+pub nothing : {s : Input} {i : ℕ} → Tokens s i i
+nothing = record { on = omega arith; at-least = λ k a b. absurd (omega arith); at-most = λ k a b. absurd (omega arith) }
 
 -- one token
-a : {s : Input} {c i : ℕ} → Kind s c i → c ≤ 5 → Tokens s i (i + 1)
-a {s} {c} {i} h l = record { at-most = λ k p q. let z : k ≡ i = omega arith in rw z (omega (arith, h .is)) }
+pub a : {s : Input} {c i : ℕ} → Kind s c i → 1 ≤ c → c ≤ 5 → Tokens s i (i + 1)
+a {s} {c} {i} h n l =
+    record {
+      on = omega arith;
+      at-least = λ k p q. let z : k ≡ i = omega arith in rw z (omega (arith, h .is));
+      at-most = λ k p q. let z : k ≡ i = omega arith in rw z (omega (arith, h .is));
+    }
 
 -- one part after another
 infixl 50 _⊕_
-_⊕_ : {s : Input} {i j k : ℕ} → Tokens s i j → Tokens s j k → Tokens s i k
-_⊕_ {s} {i} {j} {k} f g = record { at-most = λ m p q. go m p q (ltb m j) refl }
+pub _⊕_ : {s : Input} {i j k : ℕ} → Tokens s i j → Tokens s j k → Tokens s i k
+_⊕_ {s} {i} {j} {k} f g =
+    record { on = omega (arith, f .on, g .on); at-least = λ m p q. go m p q (ltb m j) refl .0; at-most = λ m p q. go m p q (ltb m j) refl .1 }
   where
-    go : (m : ℕ) → i ≤ m → m < k → (b : Bool) → ltb m j ≡ b → peek s m .kind ≤ 5
-    go m p q true e = f .at-most m p (ltb-true m j e)
-    go m p q false e = g .at-most m (ltb-false m j e) q
+    go : (m : ℕ) → i ≤ m → m < k → (b : Bool) → ltb m j ≡ b → (1 ≤ peek s m .kind) × (peek s m .kind ≤ 5)
+    go m p q true e = let l = ltb-true m j e in (f .at-least m p l, f .at-most m p l)
+    go m p q false e = let l = ltb-false m j e in (g .at-least m l q, g .at-most m l q)
 
 paren : {s : Input} {i : ℕ} → Kind s 1 i → Tokens s i (i + 1)
-paren h = a h (omega arith)
+paren h = a h (omega arith) (omega arith)
 
-close : {s : Input} {i : ℕ} → Kind s 2 i → Tokens s i (i + 1)
-close h = a h (omega arith)
+pub close : {s : Input} {i : ℕ} → Kind s 2 i → Tokens s i (i + 1)
+close h = a h (omega arith) (omega arith)
 
-symbol : {s : Input} {i : ℕ} → Symbol s i → Tokens s i (i + 1)
-symbol h = a h (omega arith)
+pub symbol : {s : Input} {i : ℕ} → Symbol s i → Tokens s i (i + 1)
+symbol h = a h (omega arith) (omega arith)
 
-word : {s : Input} {w : List ℕ} {i : ℕ} → Word s w i → Tokens s i (i + 1)
+pub word : {s : Input} {w : List ℕ} {i : ℕ} → Word s w i → Tokens s i (i + 1)
 word h = symbol (h .symbol)
 
 name : {s : Input} {i : ℕ} → Name s i → Tokens s i (i + 1)
 name h = symbol (h .symbol)
 
-integer : {s : Input} {i : ℕ} → Kind s 4 i → Tokens s i (i + 1)
-integer h = a h (omega arith)
+pub integer : {s : Input} {i : ℕ} → Kind s 4 i → Tokens s i (i + 1)
+integer h = a h (omega arith) (omega arith)
 
-optional : {s : Input} {w : List ℕ} {f i j p : ℕ} → Optional s w f i j p → Tokens s i j
+pub at-sign : {s : Input} {i : ℕ} → Kind s 5 i → Tokens s i (i + 1)
+at-sign h = a h (omega arith) (omega arith)
+
+pub optional : {s : Input} {w : List ℕ} {f i j p : ℕ} → Optional s w f i j p → Tokens s i j
 optional (given h) = word h
 optional (left n) = nothing
 
-modifiers : {s : Input} {i j e n : ℕ} → Modifiers s i j e n → Tokens s i j
+pub modifiers : {s : Input} {i j e n : ℕ} → Modifiers s i j e n → Tokens s i j
 modifiers no-more = nothing
 modifiers (an-extern w m) = word w ⊕ modifiers m
 modifiers (a-nodebug w m) = word w ⊕ modifiers m
@@ -108,7 +119,7 @@ tokens (p-wildcard h) = word h
 tokens (p-true h) = word h
 tokens (p-false h) = word h
 tokens (p-var h) = name (h .variable .named)
-tokens (p-bind h x p) = name (h .variable .named) ⊕ a x (omega arith) ⊕ tokens p
+tokens (p-bind h x p) = name (h .variable .named) ⊕ at-sign x ⊕ tokens p
 tokens (p-and o w ps c) = paren o ⊕ word w ⊕ tokens ps ⊕ close c
 tokens (p-term o h n ps c) = paren o ⊕ name h ⊕ tokens ps ⊕ close c
 tokens (e-integer h) = integer h
