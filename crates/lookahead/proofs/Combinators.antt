@@ -1,8 +1,8 @@
--- Combinators: a reader of s is followed by one of t if, where it consumes at most m tokens, the other comes to the same.
+-- Combinators: a reader of s is followed by one of t if what it consumes are tokens and, where it consumes at most m, the other comes to the same.
 -- One lemma for each way in which readers are put together. Assumes nothing.
 use Prim.Native.Nat.{ℕ, _+_, _<_, _≤_}
 use native.Mathlib.Omega.{arith}
-use mathlib.Core.Path.{_≡_, refl, sym, ap, _∙_}
+use mathlib.Core.Path.{_≡_, refl, sym, ap, subst, _∙_}
 use mathlib.Core.List.{List}
 use mathlib.Core.Bool.{Bool, true, false}
 use lib.Dec.{eqb, ltb}
@@ -14,6 +14,7 @@ use Rattle.tokens.specs.declared.Token.{Token}
 use Rattle.tokens.specs.Input.{Input, peek}
 use Rattle.steps.specs.Outcome.{Outcome, accept, refuse, Reader, before, andThen, _⊳_, nodeOf, parent, flagged, bare, ifNext, ifSecond, unexpected}
 use Rattle.grammar.proofs.Exact.{clash}
+use Rattle.grammar.proofs.TokenKinds.{Tokens, _⊕_}
 use Rattle.lookahead.specs.Agree.{Agree}
 
 -- ---- what an outcome depends on
@@ -23,13 +24,13 @@ unfoldable pub reach : Outcome → ℕ
 reach (accept ts j) = j
 reach (refuse e) = e .taken
 
--- from token i, o consumes none before it, and where it consumes at most m, p is the same
-pub record Follow (m i : ℕ) (o p : Outcome) : Type 0 where
-  pub on : i ≤ reach o
+-- what o consumes from index i on are tokens, and where it consumes at most m, p is the same
+pub record Follow (s : Input) (m i : ℕ) (o p : Outcome) : Type 0 where
+  pub tokens : Tokens s i (reach o)
   pub same : reach o ≤ m → p ≡ o
 
-pub record Follows (m : ℕ) (f g : Reader) : Type 0 where
-  pub at : (i : ℕ) → Follow m i (f i) (g i)
+pub record Follows (s : Input) (m : ℕ) (f g : Reader) : Type 0 where
+  pub at : (i : ℕ) → Follow s m i (f i) (g i)
 
 pub reach-accept : {o : Outcome} {ts : Trees} {j : ℕ} → o ≡ accept ts j → reach o ≡ j
 unfolding reach
@@ -46,7 +47,7 @@ start-goes h (stops e l) = let z : _≡_ {A = ℕ} 0 1 = cc in absurd (omega ari
 
 -- a reader that is followed and starts so at every token
 pub record Begins (s : Input) (k m : ℕ) (f g : Reader) : Type 0 where
-  pub follows : Follows m f g
+  pub follows : Follows s m f g
   pub start : (i : ℕ) → Start s k i (f i)
 
 -- ---- one part after another
@@ -56,19 +57,19 @@ unfolding before reach
 reach-before ts (accept us j) = refl
 reach-before ts (refuse e) = refl
 
-follow-then : {m i : ℕ} (o p : Outcome) {f g : Reader} → Follow m i o p → Follows m f g → Follow m i (andThen o f) (andThen p g)
+follow-then : {s : Input} {m i : ℕ} (o p : Outcome) {f g : Reader} → Follow s m i o p → Follows s m f g → Follow s m i (andThen o f) (andThen p g)
 unfolding andThen reach
-follow-then {m} {i} (accept ts j) p {f} {g} r q =
+follow-then {s} {m} {i} (accept ts j) p {f} {g} r q =
     let z = reach-before ts (f j) in
-    let w = q .at j .on in
+    let w = q .at j .tokens .on in
     record {
-      on = omega (arith, r .on, w, z);
+      tokens = r .tokens ⊕ subst (Tokens s j) (sym z) (q .at j .tokens);
       same = λ h. ap (λ (x : Outcome). andThen x g) (r .same (omega arith)) ∙ ap (before ts) (q .at j .same (omega arith));
     }
-follow-then (refuse e) p {f} {g} r q = record { on = r .on; same = λ h. ap (λ (x : Outcome). andThen x g) (r .same h) }
+follow-then (refuse e) p {f} {g} r q = record { tokens = r .tokens; same = λ h. ap (λ (x : Outcome). andThen x g) (r .same h) }
 
 infixl 50 _⊳·_
-pub _⊳·_ : {m : ℕ} {f f′ g g′ : Reader} → Follows m f f′ → Follows m g g′ → Follows m (f ⊳ g) (f′ ⊳ g′)
+pub _⊳·_ : {s : Input} {m : ℕ} {f f′ g g′ : Reader} → Follows s m f f′ → Follows s m g g′ → Follows s m (f ⊳ g) (f′ ⊳ g′)
 unfolding _⊳_
 _⊳·_ {f = f} {f′ = f′} r q = record { at = λ i. follow-then (f i) (f′ i) (r .at i) q }
 
@@ -89,15 +90,15 @@ parts (accept us l) f {ts} {j} e = go (f l) refl e
     go (refuse d) c e = absurd (clash e)
 parts (refuse d) f e = absurd (clash e)
 
-start-then : {s : Input} {k m i : ℕ} (o : Outcome) {f g : Reader} → Start s k i o → Follows m f g → Start s k i (andThen o f)
+start-then : {s : Input} {k m i : ℕ} (o : Outcome) {f g : Reader} → Start s k i o → Follows s m f g → Start s k i (andThen o f)
 unfolding andThen reach
-start-then (accept ts j) {f} (goes h l) q = goes h (omega (arith, reach-before ts (f j), q .at j .on))
+start-then (accept ts j) {f} (goes h l) q = goes h (omega (arith, reach-before ts (f j), q .at j .tokens .on))
 start-then (accept ts j) (stops h e) q = absurd (clash (sym e))
 start-then (refuse d) (goes h l) q = goes h l
 start-then (refuse d) (stops h e) q = stops h e
 
 infixl 50 _⊳→_
-pub _⊳→_ : {s : Input} {k m : ℕ} {f f′ g g′ : Reader} → Begins s k m f f′ → Follows m g g′ → Begins s k m (f ⊳ g) (f′ ⊳ g′)
+pub _⊳→_ : {s : Input} {k m : ℕ} {f f′ g g′ : Reader} → Begins s k m f f′ → Follows s m g g′ → Begins s k m (f ⊳ g) (f′ ⊳ g′)
 unfolding _⊳_
 _⊳→_ {f = f} r q = record { follows = r .follows ⊳· q; start = λ i. start-then (f i) (r .start i) q }
 
@@ -106,17 +107,21 @@ pub on-either : {n : ℕ} (b : Bool) (o q : Outcome) → n ≤ reach o → n ≤
 on-either true o q x y = x
 on-either false o q x y = y
 
+pub tokens-choose : {s : Input} {i : ℕ} (b : Bool) (o q : Outcome) → (b ≡ true → Tokens s i (reach o)) → (b ≡ false → Tokens s i (reach q)) → Tokens s i (reach (choose b (λ _. o) (λ _. q)))
+tokens-choose true o q x y = x refl
+tokens-choose false o q x y = y refl
+
 pub start-either : {s : Input} {k i : ℕ} (b : Bool) {o q : Outcome} → Start s k i o → Start s k i q → Start s k i (choose b (λ _. o) (λ _. q))
 start-either true x y = x
 start-either false x y = y
 
 -- ---- nodes
 
-follow-node : {m i : ℕ} (h h′ : Head) (o p : Outcome) → ((ts : Trees) (j : ℕ) → o ≡ accept ts j → j ≤ m → h ≡ h′) → Follow m i o p → Follow m i (nodeOf h o) (nodeOf h′ p)
+follow-node : {s : Input} {m i : ℕ} (h h′ : Head) (o p : Outcome) → ((ts : Trees) (j : ℕ) → o ≡ accept ts j → j ≤ m → h ≡ h′) → Follow s m i o p → Follow s m i (nodeOf h o) (nodeOf h′ p)
 unfolding nodeOf reach
 follow-node h h′ (accept ts j) p e r =
-    record { on = r .on; same = λ l. ap (nodeOf h′) (r .same l) ∙ ap (λ (x : Head). accept (node x ts ▸ ∅) j) (sym (e ts j refl l)) }
-follow-node h h′ (refuse d) p e r = record { on = r .on; same = λ l. ap (nodeOf h′) (r .same l) }
+    record { tokens = r .tokens; same = λ l. ap (nodeOf h′) (r .same l) ∙ ap (λ (x : Head). accept (node x ts ▸ ∅) j) (sym (e ts j refl l)) }
+follow-node h h′ (refuse d) p e r = record { tokens = r .tokens; same = λ l. ap (nodeOf h′) (r .same l) }
 
 start-node : {s : Input} {k i : ℕ} (h : Head) (o : Outcome) → Start s k i o → Start s k i (nodeOf h o)
 unfolding nodeOf reach
@@ -124,7 +129,7 @@ start-node h (accept ts j) (goes e l) = goes e l
 start-node h (accept ts j) (stops e d) = absurd (clash (sym d))
 start-node h (refuse d) x = x
 
-pub bares : (kind : ℕ) {m : ℕ} {f g : Reader} → Follows m f g → Follows m (bare kind f) (bare kind g)
+pub bares : (kind : ℕ) {s : Input} {m : ℕ} {f g : Reader} → Follows s m f g → Follows s m (bare kind f) (bare kind g)
 unfolding bare
 bares kind {f = f} {g = g} r = record { at = λ i. follow-node (head kind 0 0 0 0) (head kind 0 0 0 0) (f i) (g i) (λ ts j e l. refl) (r .at i) }
 
@@ -136,30 +141,30 @@ module _ {m : ℕ} {s t : Input} (a : Agree m s t) where
   told tell i h = sym (ap (λ (x : List ℕ). tell x (peek s i)) (a .text) ∙ ap (tell (t .text)) (a .tokens i h))
 
   -- a reader that looks at one token
-  pub looks : (f : List ℕ → Token → Reader) → ((x : List ℕ) (y : Token) (i : ℕ) → i ≤ reach (f x y i)) → Follows m (λ i. f (s .text) (peek s i) i) (λ i. f (t .text) (peek t i) i)
-  looks f on =
+  pub looks : (f : List ℕ → Token → Reader) → ((i : ℕ) → Tokens s i (reach (f (s .text) (peek s i) i))) → Follows s m (λ i. f (s .text) (peek s i) i) (λ i. f (t .text) (peek t i) i)
+  looks f c =
       record {
         at = λ i.
-            let l = on (s .text) (peek s i) i in
-            record { on = l; same = λ h. told (λ x y. f x y i) i (omega arith) };
+            let l = c i .on in
+            record { tokens = c i; same = λ h. told (λ x y. f x y i) i (omega arith) };
       }
 
   -- a node by its first token, and by a number that is the same where what f accepts is seen
-  nodes : (h : ℕ → Token → Head) (x y : ℕ → ℕ) {f g : Reader} → ((i : ℕ) (ts : Trees) (j : ℕ) → i ≤ m → f i ≡ accept ts j → j ≤ m → y i ≡ x i) → Follows m f g
-      → Follows m (λ i. nodeOf (h (x i) (peek s i)) (f i)) (λ i. nodeOf (h (y i) (peek t i)) (g i))
+  nodes : (h : ℕ → Token → Head) (x y : ℕ → ℕ) {f g : Reader} → ((i : ℕ) (ts : Trees) (j : ℕ) → i ≤ m → f i ≡ accept ts j → j ≤ m → y i ≡ x i) → Follows s m f g
+      → Follows s m (λ i. nodeOf (h (x i) (peek s i)) (f i)) (λ i. nodeOf (h (y i) (peek t i)) (g i))
   nodes h x y {f} {g} e r =
       record {
         at = λ i. follow-node (h (x i) (peek s i)) (h (y i) (peek t i)) (f i) (g i)
             (λ ts j z l.
-            let k : i ≤ m = omega (arith, r .at i .on, reach-accept z) in
+            let k : i ≤ m = omega (arith, r .at i .tokens .on, reach-accept z) in
             ap (λ (n : ℕ). h n (peek s i)) (sym (e i ts j k z l)) ∙ ap (h (y i)) (a .tokens i k)) (r .at i);
       }
 
-  pub flags : (kind : ℕ) {x y : ℕ → ℕ} {f g : Reader} → ((i : ℕ) (ts : Trees) (j : ℕ) → i ≤ m → f i ≡ accept ts j → j ≤ m → y i ≡ x i) → Follows m f g → Follows m (flagged s kind x f) (flagged t kind y g)
+  pub flags : (kind : ℕ) {x y : ℕ → ℕ} {f g : Reader} → ((i : ℕ) (ts : Trees) (j : ℕ) → i ≤ m → f i ≡ accept ts j → j ≤ m → y i ≡ x i) → Follows s m f g → Follows s m (flagged s kind x f) (flagged t kind y g)
   unfolding flagged
   flags kind {x} {y} e r = nodes (λ n y. head kind n (y .pos) 0 0) x y e r
 
-  pub parents : (kind n : ℕ) {f g : Reader} → Follows m f g → Follows m (parent s kind n f) (parent t kind n g)
+  pub parents : (kind n : ℕ) {f g : Reader} → Follows s m f g → Follows s m (parent s kind n f) (parent t kind n g)
   unfolding parent flagged
   parents kind n r = flags kind (λ i ts j k h l. refl) r
 
@@ -177,25 +182,21 @@ module _ {m : ℕ} {s t : Input} (a : Agree m s t) where
 
   -- ---- choices
 
-  follow-choose : {i : ℕ} (b c : Bool) {o p q r : Outcome} → (b ≡ true → Follow m i o p) → (b ≡ false → Follow m i q r) → (reach (choose b (λ _. o) (λ _. q)) ≤ m → c ≡ b)
-      → Follow m i (choose b (λ _. o) (λ _. q)) (choose c (λ _. p) (λ _. r))
+  follow-choose : {i : ℕ} (b c : Bool) {o p q r : Outcome} → (b ≡ true → Follow s m i o p) → (b ≡ false → Follow s m i q r) → (reach (choose b (λ _. o) (λ _. q)) ≤ m → c ≡ b)
+      → Follow s m i (choose b (λ _. o) (λ _. q)) (choose c (λ _. p) (λ _. r))
   follow-choose true c {p = p} {r = r} x y e =
-      let z = x refl in record { on = z .on; same = λ h. ap (λ (d : Bool). choose d (λ _. p) (λ _. r)) (e h) ∙ z .same h }
+      let z = x refl in record { tokens = z .tokens; same = λ h. ap (λ (d : Bool). choose d (λ _. p) (λ _. r)) (e h) ∙ z .same h }
   follow-choose false c {p = p} {r = r} x y e =
-      let z = y refl in record { on = z .on; same = λ h. ap (λ (d : Bool). choose d (λ _. p) (λ _. r)) (e h) ∙ z .same h }
-
-  on-choose : {i : ℕ} (b : Bool) {o p q r : Outcome} → (b ≡ true → Follow m i o p) → (b ≡ false → Follow m i q r) → i ≤ reach (choose b (λ _. o) (λ _. q))
-  on-choose true x y = x refl .on
-  on-choose false x y = y refl .on
+      let z = y refl in record { tokens = z .tokens; same = λ h. ap (λ (d : Bool). choose d (λ _. p) (λ _. r)) (e h) ∙ z .same h }
 
   -- by the next token
-  pub next-at : (test : List ℕ → Token → Bool) {i : ℕ} {o p q r : Outcome} → (test (s .text) (peek s i) ≡ true → Follow m i o p) → Follow m i q r
-      → Follow m i (choose (test (s .text) (peek s i)) (λ _. o) (λ _. q)) (choose (test (t .text) (peek t i)) (λ _. p) (λ _. r))
-  next-at test {i} x y =
-      let l = on-choose (test (s .text) (peek s i)) x (λ _. y) in
+  pub next-at : (test : List ℕ → Token → Bool) {i : ℕ} {o p q r : Outcome} → (test (s .text) (peek s i) ≡ true → Follow s m i o p) → Follow s m i q r
+      → Follow s m i (choose (test (s .text) (peek s i)) (λ _. o) (λ _. q)) (choose (test (t .text) (peek t i)) (λ _. p) (λ _. r))
+  next-at test {i} {o} {p} {q} x y =
+      let l = tokens-choose (test (s .text) (peek s i)) o q (λ e. x e .tokens) (λ _. y .tokens) .on in
       follow-choose (test (s .text) (peek s i)) (test (t .text) (peek t i)) x (λ _. y) (λ h. told test i (omega arith))
 
-  pub nexts : (test : List ℕ → Token → Bool) {f f′ g g′ : Reader} → Follows m f f′ → Follows m g g′ → Follows m (ifNext s (test (s .text)) f g) (ifNext t (test (t .text)) f′ g′)
+  pub nexts : (test : List ℕ → Token → Bool) {f f′ g g′ : Reader} → Follows s m f f′ → Follows s m g g′ → Follows s m (ifNext s (test (s .text)) f g) (ifNext t (test (t .text)) f′ g′)
   unfolding ifNext
   nexts test r q = record { at = λ i. next-at test (λ _. r .at i) (q .at i) }
 
@@ -206,7 +207,7 @@ module _ {m : ℕ} {s t : Input} (a : Agree m s t) where
   alike false true o = refl
   alike false false o = refl
 
-  unseen : {k i : ℕ} (b c : Bool) {o p q r : Outcome} → Follow m i o p → Follow m i q r → Start s k i o → Start s k i q → reach (choose b (λ _. o) (λ _. q)) ≤ i → i ≤ m
+  unseen : {k i : ℕ} (b c : Bool) {o p q r : Outcome} → Follow s m i o p → Follow s m i q r → Start s k i o → Start s k i q → reach (choose b (λ _. o) (λ _. q)) ≤ i → i ≤ m
       → choose c (λ _. p) (λ _. r) ≡ choose b (λ _. o) (λ _. q)
   unfolding reach unexpected
   unseen {i = i} b c {o} {p} {q} x y (goes d l) (goes e n) h z = let u = on-either {n = i + 1} b o q (omega arith) (omega arith) in absurd (omega arith)
@@ -217,12 +218,12 @@ module _ {m : ℕ} {s t : Input} (a : Agree m s t) where
       let v : r ≡ refuse (unexpected (peek s i) i) = y .same (omega (arith, ap reach n)) ∙ n in
       rw (u, v, l, n) (alike b c (refuse (unexpected (peek s i) i)))
 
-  pub second-at : (test : List ℕ → Token → Bool) {k i : ℕ} {o p q r : Outcome} → Follow m i o p → Follow m i q r → Start s k i o → Start s k i q
-      → Follow m i (choose (test (s .text) (peek s (i + 1))) (λ _. o) (λ _. q)) (choose (test (t .text) (peek t (i + 1))) (λ _. p) (λ _. r))
+  pub second-at : (test : List ℕ → Token → Bool) {k i : ℕ} {o p q r : Outcome} → Follow s m i o p → Follow s m i q r → Start s k i o → Start s k i q
+      → Follow s m i (choose (test (s .text) (peek s (i + 1))) (λ _. o) (λ _. q)) (choose (test (t .text) (peek t (i + 1))) (λ _. p) (λ _. r))
   second-at test {i = i} {o} {p} {q} {r} x y d e =
       let b = test (s .text) (peek s (i + 1)) in
-      let l = on-choose b (λ _. x) (λ _. y) in
-      record { on = l; same = go (ltb i (reach (choose b (λ _. o) (λ _. q)))) refl l }
+      let l = tokens-choose b o q (λ _. x .tokens) (λ _. y .tokens) in
+      record { tokens = l; same = go (ltb i (reach (choose b (λ _. o) (λ _. q)))) refl (l .on) }
     where
       go : (z : Bool) → ltb i (reach (choose (test (s .text) (peek s (i + 1))) (λ _. o) (λ _. q))) ≡ z → i ≤ reach (choose (test (s .text) (peek s (i + 1))) (λ _. o) (λ _. q))
           → reach (choose (test (s .text) (peek s (i + 1))) (λ _. o) (λ _. q)) ≤ m → choose (test (t .text) (peek t (i + 1))) (λ _. p) (λ _. r) ≡ choose (test (s .text) (peek s (i + 1))) (λ _. o) (λ _. q)

@@ -5,7 +5,7 @@ use mathlib.Core.Path.{_≡_, refl}
 use mathlib.Core.Bool.{Bool, true, false}
 use Rattle.trees.specs.Choice.{pick}
 use Rattle.trees.specs.Ast.{IfLet, Pattern·Wildcard, Expr·Term, Expr·Var, Expr·ConstBool, Expr·ConstPrim, Expr·Let, LetDef}
-use Rattle.tokens.specs.Token.{isLparen, isSymbol, isInt, isConst, isWord}
+use Rattle.tokens.specs.Token.{isLparen, isSymbol, isConst, isWord}
 use Rattle.tokens.specs.Input.{Input, peek, size}
 use Rattle.steps.specs.Keywords.{word-true, word-false, word-let, word-if, word-if-let}
 use Rattle.steps.specs.Outcome.{Reader, _⊳_, plain, ifNext, ifSecond, many, expect-lparen, expect-rparen, expect-word}
@@ -15,7 +15,7 @@ use Rattle.grammar.proofs.Rows.{item-on}
 use Rattle.grammar.proofs.Expr.{exact-expr}
 use Rattle.lookahead.specs.Agree.{Agree}
 use Rattle.lookahead.proofs.Combinators.{reach, Follows, Start, start-goes, Begins, _⊳·_, _⊳→_, on-either, start-either, parents, parents→, told, next-at, nexts, second-at, seconds}
-use Rattle.lookahead.proofs.Steps.{nothings, refuses, leaves, rparens, words, lparens, idents, constants}
+use Rattle.lookahead.proofs.Steps.{nothings, refuses, integer-leaves, word-leaves, rparens, words, lparens, idents, constants}
 use Rattle.lookahead.proofs.Rows.{Takes, start-takes, begins-takes, next-takes, rows-then, rows-of, below}
 use Rattle.lookahead.proofs.Patterns.{patterns}
 
@@ -24,12 +24,12 @@ unfolding least
 expr-takes s d = record { takes = λ i ts j e. item-on refl (exact-expr s d .sound i e .derives) }
 
 module _ {m : ℕ} {s t : Input} (a : Agree m s t) where
-  module _ {sub sub′ : Reader} (h : Takes (size s) sub) (r : Follows m sub sub′) where
+  module _ {sub sub′ : Reader} (h : Takes (size s) sub) (r : Follows s m sub sub′) where
     letdefs : Begins s 1 m (parseLetdef s sub) (parseLetdef t sub′)
     unfolding parseLetdef
     letdefs = parents→ a LetDef 0 (lparens a ⊳→ idents a .follows ⊳→ idents a .follows ⊳→ r ⊳→ rparens a)
 
-    let-insides : Follows m (letInside s sub) (letInside t sub′)
+    let-insides : Follows s m (letInside s sub) (letInside t sub′)
     unfolding letInside
     let-insides = words a word-let ⊳· lparens a .follows ⊳· rows-of a (begins-takes (omega arith) letdefs) (letdefs .follows) ⊳· rparens a ⊳· r ⊳· rparens a
 
@@ -40,16 +40,16 @@ module _ {m : ℕ} {s t : Input} (a : Agree m s t) where
         (parents→ a Expr·Let 0 (lparens a ⊳→ let-insides))
         (parents→ a Expr·Term 0 (lparens a ⊳→ idents a .follows ⊳→ rows-of a h r ⊳→ rparens a))
 
-  exprs : (d : ℕ) → Follows m (parseExpr s d) (parseExpr t d)
+  exprs : (d : ℕ) → Follows s m (parseExpr s d) (parseExpr t d)
   unfolding parseExpr exprIn
   exprs zero = refuses a 8
   exprs (suc d) =
       nexts a (λ _. isLparen) (parens (expr-takes s d) (exprs d) .follows)
       (nexts a isConst (parents a Expr·ConstPrim 0 (constants a .follows))
-      (nexts a (λ x. isWord x word-true) (leaves a (plain Expr·ConstBool 1))
-      (nexts a (λ x. isWord x word-false) (leaves a (plain Expr·ConstBool 0))
+      (word-leaves a word-true (plain Expr·ConstBool 1)
+      (word-leaves a word-false (plain Expr·ConstBool 0)
       (nexts a (λ _. isSymbol) (parents a Expr·Var 0 (idents a .follows))
-      (nexts a (λ _. isInt) (leaves a constInt)
+      (integer-leaves a constInt
       (refuses a 26))))))
 
   -- ---- if-lets
@@ -67,7 +67,7 @@ module _ {m : ℕ} {s t : Input} (a : Agree m s t) where
   unfolding parseExpr exprIn ifNext
   expr-start i e = rw e (parens (expr-takes s 63) (exprs 63) .start i)
 
-  iflets-or-exprs : Follows m (parseIfletOrExpr s) (parseIfletOrExpr t)
+  iflets-or-exprs : Follows s m (parseIfletOrExpr s) (parseIfletOrExpr t)
   unfolding parseIfletOrExpr ifNext ifSecond
   iflets-or-exprs =
       record {
@@ -111,7 +111,7 @@ module _ {m : ℕ} {s t : Input} (a : Agree m s t) where
       go false e = rw (told a (λ _. isLparen) i l, e)
 
   -- the if-lets of a rule and its expression
-  pub iflet-rows : Follows m (many (size s) (noIflet s) (parseIfletOrExpr s) ⊳ parseIfletOrExpr s) (many (size t) (noIflet t) (parseIfletOrExpr t) ⊳ parseIfletOrExpr t)
+  pub iflet-rows : Follows s m (many (size s) (noIflet s) (parseIfletOrExpr s) ⊳ parseIfletOrExpr s) (many (size t) (noIflet t) (parseIfletOrExpr t) ⊳ parseIfletOrExpr t)
   unfolding many
   iflet-rows =
       rows-then (record {

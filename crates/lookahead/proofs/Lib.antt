@@ -1,4 +1,4 @@
--- That a refusal depends on no token behind the next one. The theorem is in Theorem.antt.
+-- That a refusal depends on no token behind the next one, and that what it counts as consumed are tokens. The theorems are in Theorem.antt.
 pub mod Combinators
 pub mod Steps
 pub mod Rows

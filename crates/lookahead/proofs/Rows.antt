@@ -1,7 +1,7 @@
 -- Rows of items, each of which takes a token that is there: the bounds on their number, which are the sizes of two inputs, never tell. Assumes nothing.
 use Prim.Native.Nat.{ℕ, zero, suc, _+_, _<_, _≤_}
 use native.Mathlib.Omega.{arith}
-use mathlib.Core.Path.{_≡_, refl, sym, ap, _∙_}
+use mathlib.Core.Path.{_≡_, refl, sym, ap, subst, _∙_}
 use mathlib.Core.Bool.{Bool, true, false}
 use borrow.Author.Tests.{eqb-true, ltb-true, lt-ltb}
 use Rattle.trees.specs.Choice.{choose}
@@ -13,6 +13,8 @@ use Rattle.tokens.specs.Input.{Input, peek, size}
 use Rattle.steps.specs.Outcome.{Outcome, accept, refuse, Reader, before, andThen, _⊳_, nothing, ifNext, thenAt, itemsFrom, manyAt, many, row}
 use Rattle.steps.proofs.SizeLaws.{there}
 use Rattle.grammar.proofs.Exact.{clash}
+use Rattle.grammar.proofs.TokenKinds as kinds
+use Rattle.grammar.proofs.TokenKinds.{Tokens, _⊕_}
 use Rattle.lookahead.specs.Agree.{Agree}
 use Rattle.lookahead.proofs.Combinators.{reach, reach-accept, reach-before, Follows, Start, goes, stops, Begins, told}
 use Rattle.lookahead.proofs.Steps.{nothings}
@@ -41,11 +43,11 @@ next-takes s test {n} {f} {g} h r = record { takes = λ i ts j e. go i ts j (tes
 -- ---- a row and what is read after it
 
 -- items f until the test says stop, of n tokens, and then g; and the same of another input
-pub record Rows (m n n′ : ℕ) (stop stop′ : ℕ → Bool) (f f′ : ℕ → Reader) (g g′ : Reader) : Type 0 where
+pub record Rows (s : Input) (m n n′ : ℕ) (stop stop′ : ℕ → Bool) (f f′ : ℕ → Reader) (g g′ : Reader) : Type 0 where
   pub near : (i : ℕ) → i ≤ m → i < n → i < n′
   pub takes : (k : ℕ) → Takes n (f k)
-  pub items : (k : ℕ) → Follows m (f k) (f′ k)
-  pub last : Follows m g g′
+  pub items : (k : ℕ) → Follows s m (f k) (f′ k)
+  pub last : Follows s m g g′
   pub tells : (k i : ℕ) → i ≤ m → reach (choose (stop i) (λ _. g i) (λ _. f k i)) ≤ m → stop′ i ≡ stop i
 
 before-before : (ts us : Trees) (o : Outcome) → before (ts ⧺ us) o ≡ before ts (before us o)
@@ -70,7 +72,7 @@ unfolding _⊳_ andThen
 abbrev Enough : ℕ → ℕ → ℕ → Type 0
 Enough n x i = (0 < x) × (n < x + i)
 
-module _ {m n n′ : ℕ} {stop stop′ : ℕ → Bool} {f f′ : ℕ → Reader} {g g′ : Reader} (w : Rows m n n′ stop stop′ f f′ g g′) where
+module _ {s : Input} {m n n′ : ℕ} {stop stop′ : ℕ → Bool} {f f′ : ℕ → Reader} {g g′ : Reader} (w : Rows s m n n′ stop stop′ f f′ g g′) where
   enough : (x k i : ℕ) (ts : Trees) (j : ℕ) → f k i ≡ accept ts j → Enough n (suc x) i → Enough n x j
   enough x k i ts j e h = let z = w .takes k .takes i ts j e in (omega (arith, z .0, z .1, h .1), omega (arith, z .0, z .1, h .1))
 
@@ -79,25 +81,25 @@ module _ {m n n′ : ℕ} {stop stop′ : ℕ → Bool} {f f′ : ℕ → Reader
 
   -- what is read after an item goes on from there
   abbrev Onward : ℕ → ℕ → ℕ → Type 0
-  Onward x k i = (us : Trees) (j : ℕ) → f k i ≡ accept us j → j ≤ reach (Row x (k + count us) j)
+  Onward x k i = (us : Trees) (j : ℕ) → f k i ≡ accept us j → Tokens s j (reach (Row x (k + count us) j))
 
-  on-item : (x k i : ℕ) (o : Outcome) → f k i ≡ o → Onward x k i → reach o ≤ reach (andThen (thenAt k o (itemsFrom stop f x)) g)
+  tokens-item : (x k i : ℕ) (o : Outcome) → f k i ≡ o → Onward x k i → Tokens s (reach o) (reach (andThen (thenAt k o (itemsFrom stop f x)) g))
   unfolding thenAt andThen reach
-  on-item x k i (accept us j) e more =
+  tokens-item x k i (accept us j) e more =
       let z = ap reach (then-before us (itemsFrom stop f x (k + count us) j) g) in
       let y = reach-before us (Row x (k + count us) j) in
-      omega (arith, more us j e)
-  on-item x k i (refuse d) e more = omega arith
+      subst (Tokens s j) (sym (z ∙ y)) (more us j e)
+  tokens-item x k i (refuse d) e more = kinds.nothing
 
-  on-turn : (x k i : ℕ) (b : Bool) → Onward x k i → i ≤ reach (andThen (choose b (λ _. accept ∅ i) (λ _. thenAt k (f k i) (itemsFrom stop f x))) g)
+  tokens-turn : (x k i : ℕ) (b : Bool) → Onward x k i → Tokens s i (reach (andThen (choose b (λ _. accept ∅ i) (λ _. thenAt k (f k i) (itemsFrom stop f x))) g))
   unfolding andThen
-  on-turn x k i true more = omega (arith, reach-before ∅ (g i), w .last .at i .on)
-  on-turn x k i false more = omega (arith, w .items k .at i .on, on-item x k i (f k i) refl more)
+  tokens-turn x k i true more = subst (Tokens s i) (sym (reach-before ∅ (g i))) (w .last .at i .tokens)
+  tokens-turn x k i false more = w .items k .at i .tokens ⊕ tokens-item x k i (f k i) refl more
 
-  on-row : (x k i : ℕ) → Enough n x i → i ≤ reach (Row x k i)
+  tokens-row : (x k i : ℕ) → Enough n x i → Tokens s i (reach (Row x k i))
   unfolding itemsFrom
-  on-row zero k i h = absurd (omega (arith, h .0))
-  on-row (suc x) k i h = on-turn x k i (stop i) (λ us j e. on-row x (k + count us) j (enough x k i us j e h))
+  tokens-row zero k i h = absurd (omega (arith, h .0))
+  tokens-row (suc x) k i h = tokens-turn x k i (stop i) (λ us j e. tokens-row x (k + count us) j (enough x k i us j e h))
 
   -- ---- the row of the other input
 
@@ -137,7 +139,7 @@ module _ {m n n′ : ℕ} {stop stop′ : ℕ → Bool} {f f′ : ℕ → Reader
       let c = ap (λ (b : Bool). reach (choose b (λ _. g i) (λ _. f k i))) e in
       ap (Turn′ y k i) (w .tells k i l (omega arith) ∙ e) ∙ ap (before ∅) (w .last .at i .same (omega arith))
   same-turn x y k i false e l more again h =
-      let z = on-item x k i (f k i) refl more in
+      let z = tokens-item x k i (f k i) refl more .on in
       let c = ap (λ (b : Bool). reach (choose b (λ _. g i) (λ _. f k i))) e in
       ap (Turn′ y k i) (w .tells k i l (omega arith) ∙ e) ∙ same-item x y k i (f k i) refl (omega arith) again h
 
@@ -146,17 +148,17 @@ module _ {m n n′ : ℕ} {stop stop′ : ℕ → Bool} {f f′ : ℕ → Reader
   same-row zero y k i h v l = absurd (omega (arith, h .0))
   same-row (suc x) zero k i h v l = absurd (omega (arith, v .0))
   same-row (suc x) (suc y) k i h v l =
-      let z = on-row (suc x) k i h in
+      let z = tokens-row (suc x) k i h .on in
       let d : i ≤ m = omega arith in
-      same-turn x y k i (stop i) refl d (λ us j e. on-row x (k + count us) j (enough x k i us j e h))
+      same-turn x y k i (stop i) refl d (λ us j e. tokens-row x (k + count us) j (enough x k i us j e h))
       (λ us j e c. same-row x y (k + count us) j (enough x k i us j e h) (enough′ y k i us j e d v) c) l
 
-  pub rows-then : (k : ℕ) → Follows m (manyAt n stop f k ⊳ g) (manyAt n′ stop′ f′ k ⊳ g′)
+  pub rows-then : (k : ℕ) → Follows s m (manyAt n stop f k ⊳ g) (manyAt n′ stop′ f′ k ⊳ g′)
   unfolding manyAt _⊳_
   rows-then k =
       record {
         at = λ i. record {
-          on = on-row (suc n) k i (omega arith, omega arith);
+          tokens = tokens-row (suc n) k i (omega arith, omega arith);
           same = same-row (suc n) (suc n′) k i (omega arith, omega arith) (omega arith, omega arith);
         };
       }
@@ -164,13 +166,12 @@ module _ {m n n′ : ℕ} {stop stop′ : ℕ → Bool} {f f′ : ℕ → Reader
 -- ---- a row alone
 
 -- the same readers in other words
-pub follows-as : {m : ℕ} {f f′ g g′ : Reader} → ((i : ℕ) → f i ≡ g i) → ((i : ℕ) → f′ i ≡ g′ i) → Follows m f f′ → Follows m g g′
-follows-as d e r =
+pub follows-as : {s : Input} {m : ℕ} {f f′ g g′ : Reader} → ((i : ℕ) → f i ≡ g i) → ((i : ℕ) → f′ i ≡ g′ i) → Follows s m f f′ → Follows s m g g′
+follows-as {s} d e r =
     record {
       at = λ i.
           let z = ap reach (d i) in
-          let l = r .at i .on in
-          record { on = omega arith; same = λ h. sym (e i) ∙ r .at i .same (omega arith) ∙ d i };
+          record { tokens = subst (Tokens s i) z (r .at i .tokens); same = λ h. sym (e i) ∙ r .at i .same (omega arith) ∙ d i };
     }
 
 then-nothing : (o : Outcome) → andThen o nothing ≡ o
@@ -178,7 +179,7 @@ unfolding andThen nothing before
 then-nothing (accept ts j) = ap (λ (x : Trees). accept x j) (⧺-none ts)
 then-nothing (refuse e) = refl
 
-pub rows : {m n n′ : ℕ} {stop stop′ : ℕ → Bool} {f f′ : ℕ → Reader} (k : ℕ) → Rows m n n′ stop stop′ f f′ nothing nothing → Follows m (manyAt n stop f k) (manyAt n′ stop′ f′ k)
+pub rows : {s : Input} {m n n′ : ℕ} {stop stop′ : ℕ → Bool} {f f′ : ℕ → Reader} (k : ℕ) → Rows s m n n′ stop stop′ f f′ nothing nothing → Follows s m (manyAt n stop f k) (manyAt n′ stop′ f′ k)
 unfolding _⊳_
 rows {n = n} {n′ = n′} {stop = stop} {stop′ = stop′} {f = f} {f′ = f′} k w =
     follows-as (λ i. then-nothing (manyAt n stop f k i)) (λ i. then-nothing (manyAt n′ stop′ f′ k i)) (rows-then w k)
@@ -188,9 +189,9 @@ module _ {m : ℕ} {s t : Input} (a : Agree m s t) where
   below i h l = ltb-true i (size t) (sym (a .ends i h) ∙ lt-ltb i (size s) l)
 
   -- up to a `)`
-  pub rows-at : {f f′ : ℕ → Reader} → ((k : ℕ) → Takes (size s) (f k)) → ((k : ℕ) → Follows m (f k) (f′ k)) → Follows m (manyAt (size s) (λ i. isRparen (peek s i)) f 0) (manyAt (size t) (λ i. isRparen (peek t i)) f′ 0)
+  pub rows-at : {f f′ : ℕ → Reader} → ((k : ℕ) → Takes (size s) (f k)) → ((k : ℕ) → Follows s m (f k) (f′ k)) → Follows s m (manyAt (size s) (λ i. isRparen (peek s i)) f 0) (manyAt (size t) (λ i. isRparen (peek t i)) f′ 0)
   rows-at h r = rows 0 (record { near = below; takes = h; items = r; last = nothings; tells = λ k i l _. told a (λ _. isRparen) i l })
 
-  pub rows-of : {f f′ : Reader} → Takes (size s) f → Follows m f f′ → Follows m (row s f) (row t f′)
+  pub rows-of : {f f′ : Reader} → Takes (size s) f → Follows s m f f′ → Follows s m (row s f) (row t f′)
   unfolding many
   rows-of h r = rows-at (λ _. h) (λ _. r)

@@ -14,10 +14,13 @@ use Rattle.steps.specs.Keywords.{word-extern, word-nodebug, word-primitive, wor
 use Rattle.steps.specs.Outcome.{accept, refuse, refusal, andThen, _⊳_, parent, bare, nothing, expect-lparen, expect-rparen, parseIdent}
 use Rattle.steps.proofs.SizeLaws.{met-there, word-kinded}
 use Rattle.parser.specs.Types.{parseStructField, parseStructFields, parseTupleField, parseTupleFields, parseFields, parseTypeVariant, parseTypevalue, modifierFlags, modifiersEnd, parseModifiers, parseType}
-use Rattle.parser.proofs.ModifierLaws.{end-reach}
+use Rattle.grammar.proofs.Lexemes.{symbols}
+use Rattle.grammar.proofs.Options.{passed-over}
+use Rattle.grammar.proofs.TokenKinds as kinds
+use Rattle.grammar.proofs.TokenKinds.{Tokens, _⊕_}
 use Rattle.lookahead.specs.Agree.{Agree}
 use Rattle.lookahead.proofs.Combinators.{reach, reach-accept, Follow, Follows, Begins, _⊳·_, _⊳→_, parts, on-either, bares, told, flags, parents, nodes→, parents→, nexts, seconds}
-use Rattle.lookahead.proofs.Steps.{nothings, rparens, words, lparens, idents, name-end, refusesAfter}
+use Rattle.lookahead.proofs.Steps.{nothings, rparens, words, lparens, idents, name-end, refusesParen}
 use Rattle.lookahead.proofs.Rows.{Takes, begins-takes, next-takes, rows-at, rows-of}
 
 -- ---- fields and type values
@@ -31,7 +34,7 @@ module _ {m : ℕ} {s t : Input} (a : Agree m s t) where
   unfolding parseTupleField
   tuple-fields k = nodes→ a (λ y. head TupleField 0 (y .pos) k 0) (idents a)
 
-  fields : Follows m (parseFields s) (parseFields t)
+  fields : Follows s m (parseFields s) (parseFields t)
   unfolding parseFields parseStructFields parseTupleFields
   fields =
       nexts a (λ _. isRparen) (bares Fields·Unit nothings)
@@ -44,7 +47,7 @@ module _ {m : ℕ} {s t : Input} (a : Agree m s t) where
   field-variants : Begins s 1 m (parent s Variant 0 (expect-lparen s ⊳ parseIdent s ⊳ parseFields s ⊳ expect-rparen s)) (parent t Variant 0 (expect-lparen t ⊳ parseIdent t ⊳ parseFields t ⊳ expect-rparen t))
   field-variants = parents→ a Variant 0 (lparens a ⊳→ idents a .follows ⊳→ fields ⊳→ rparens a)
 
-  variants : Follows m (parseTypeVariant s) (parseTypeVariant t)
+  variants : Follows s m (parseTypeVariant s) (parseTypeVariant t)
   unfolding parseTypeVariant
   variants = nexts a (λ _. isSymbol) (plain-variants .follows) (field-variants .follows)
 
@@ -52,7 +55,7 @@ module _ {m : ℕ} {s t : Input} (a : Agree m s t) where
   unfolding parseTypeVariant
   variant-takes = next-takes s isSymbol (λ i ts j _. begins-takes (omega arith) plain-variants .takes i ts j) (begins-takes (omega arith) field-variants)
 
-  typevalues : Follows m (parseTypevalue s) (parseTypevalue t)
+  typevalues : Follows s m (parseTypevalue s) (parseTypevalue t)
   unfolding parseTypevalue
   typevalues =
       seconds a (λ x. isWord x word-primitive)
@@ -61,7 +64,7 @@ module _ {m : ℕ} {s t : Input} (a : Agree m s t) where
       (parents→ a TypeValue·Enum 0 (lparens a ⊳→ words a word-enum ⊳→ rows-of a variant-takes variants ⊳→ rparens a))
       (seconds a (λ x. isWord x word-struct)
       (parents→ a TypeValue·Struct 0 (lparens a ⊳→ words a word-struct ⊳→ fields ⊳→ rparens a))
-      (refusesAfter a 1 19))) .follows
+      (refusesParen a 19))) .follows
 
 -- ---- modifiers
 
@@ -82,6 +85,9 @@ flags-past : (s : Input) (f e n i : ℕ) → size s ≤ i → modifierFlags s f 
 unfolding modifierFlags
 flags-past s zero e n i h = refl
 flags-past s (suc f) e n i h = rw (no-word s word-extern i h, no-word s word-nodebug i h)
+
+end-tokens : (s : Input) (f i : ℕ) → Tokens s i (modifiersEnd s f i)
+end-tokens s f i = kinds.modifiers (passed-over s f i .modifiers)
 
 -- the modifiers from i on, bounded by x in s and by y in t, end alike and make the same flags
 record Alike (s t : Input) (x y i : ℕ) : Type 0 where
@@ -115,10 +121,10 @@ module _ {m : ℕ} {s t : Input} (a : Agree m s t) where
   unfolding modifiersEnd
   alike zero y i p q h = past-both zero y i h (omega arith)
   alike (suc x) zero i p q h =
-      let l : i ≤ m = omega (arith, end-reach s (suc x) i .on) in
+      let l : i ≤ m = omega (arith, end-tokens s (suc x) i .on) in
       past-both (suc x) zero i l (ltb-false i (size s) (a .ends i l ∙ le-ltb i (size t) (omega arith)))
   alike (suc x) (suc y) i p q h =
-      let l : i ≤ m = omega (arith, end-reach s (suc x) i .on) in
+      let l : i ≤ m = omega (arith, end-tokens s (suc x) i .on) in
       turns x y i (isWord (s .text) word-extern (peek s i)) (isWord (s .text) word-nodebug (peek s i)) refl refl l
       (λ e. alike x y (i + 1) (omega arith) (omega arith) (rw e at h))
       (λ d e. alike x y (i + 1) (omega arith) (omega arith) (rw (d, e) at h))
@@ -126,17 +132,17 @@ module _ {m : ℕ} {s t : Input} (a : Agree m s t) where
   same-end : (i : ℕ) → modifiersEnd s (size s) i ≤ m → Alike s t (size s) (size t) i
   same-end i h = alike (size s) (size t) i (omega arith) (omega arith) h
 
-  modifiers : Follows m (parseModifiers s) (parseModifiers t)
+  modifiers : Follows s m (parseModifiers s) (parseModifiers t)
   unfolding parseModifiers reach
-  modifiers = record { at = λ i. let l = end-reach s (size s) i .on in go i (modifiersEnd s (size s) i) refl l (isSymbol (peek s (modifiersEnd s (size s) i))) refl }
+  modifiers = record { at = λ i. let l = end-tokens s (size s) i in go i (modifiersEnd s (size s) i) refl l (isSymbol (peek s (modifiersEnd s (size s) i))) refl }
     where
-      go : (i e : ℕ) → modifiersEnd s (size s) i ≡ e → i ≤ e → (b : Bool) → isSymbol (peek s e) ≡ b
-          → Follow m i (choose b (λ _. refuse (refusal 18 (posAt s (e + 1)) (e + 1))) (λ _. accept ∅ e))
+      go : (i e : ℕ) → modifiersEnd s (size s) i ≡ e → Tokens s i e → (b : Bool) → isSymbol (peek s e) ≡ b
+          → Follow s m i (choose b (λ _. refuse (refusal 18 (posAt s (e + 1)) (e + 1))) (λ _. accept ∅ e))
           (choose (isSymbol (peek t (modifiersEnd t (size t) i))) (λ _. refuse (refusal 18 (posAt t (modifiersEnd t (size t) i + 1)) (modifiersEnd t (size t) i + 1))) (λ _. accept ∅ (modifiersEnd t (size t) i)))
       go i e c l true b =
-          record { on = omega arith; same = λ h. rw (same-end i (omega arith) .ends, c, told a (λ _. isSymbol) e (omega arith), b, told a (λ _ y. y .pos) (e + 1) h) }
+          record { tokens = l ⊕ kinds.symbol (symbols s .at e .yes b); same = λ h. rw (same-end i (omega arith) .ends, c, told a (λ _. isSymbol) e (omega arith), b, told a (λ _ y. y .pos) (e + 1) h) }
       go i e c l false b =
-          record { on = l; same = λ h. rw (same-end i (omega arith) .ends, c, told a (λ _. isSymbol) e h, b) }
+          record { tokens = l; same = λ h. rw (same-end i (omega arith) .ends, c, told a (λ _. isSymbol) e h, b) }
 
   end-within : (i : ℕ) → modifiersEnd s (size s) i ≤ reach (parseModifiers s i)
   unfolding parseModifiers reach
@@ -150,8 +156,8 @@ module _ {m : ℕ} {s t : Input} (a : Agree m s t) where
       let p = parts (andThen (parseIdent s i) (parseModifiers s)) (parseTypevalue s) e in
       let q = parts (parseIdent s i) (parseModifiers s) (p .is) in
       let d = ap (modifiersEnd s (size s)) (name-end s i (q .is)) in
-      same-end (i + 1) (omega (arith, end-within (q .end), reach-accept (q .rest), typevalues a .at (p .end) .on, reach-accept (p .rest))) .flags 0 0
+      same-end (i + 1) (omega (arith, end-within (q .end), reach-accept (q .rest), typevalues a .at (p .end) .tokens .on, reach-accept (p .rest))) .flags 0 0
 
-  pub types : Follows m (parseType s) (parseType t)
+  pub types : Follows s m (parseType s) (parseType t)
   unfolding parseType
   types = flags a TypeDef (λ i ts j _ e l. type-flags i ts j e l) (idents a .follows ⊳· modifiers ⊳· typevalues a)

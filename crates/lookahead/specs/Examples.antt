@@ -1,4 +1,4 @@
--- Inputs for the theorem: the same text, and tokens that are the same up to the third.
+-- Inputs for the theorems: the same text, and the same tokens up to the third, or up to the second.
 use mathlib.Core.List.{List, [], _∷_, _++_}
 use Prim.Native.Nat.{ℕ}
 use Rattle.tokens.specs.Input.{Input, input}
@@ -18,3 +18,7 @@ going = input (tok 1 0 0 0 ++ sym 1 6 ++ sym 8 3 ++ tok 5 11 0 0 ++ tok 4 11 0 7
 -- `(extern foo`, and nothing behind it
 unfoldable pub ended : Input
 ended = input (tok 1 0 0 0 ++ sym 1 6 ++ sym 8 3) text 12
+
+-- `(extern`, and then a record where the lexer stops
+unfoldable pub stopped : Input
+stopped = input (tok 1 0 0 0 ++ sym 1 6 ++ tok 6 8 0 0) text 12
