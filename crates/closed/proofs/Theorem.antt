@@ -58,7 +58,7 @@ kept-again : {s : Input} {ts : Trees} (n : ℕ) → Derived s ts → Lent s → 
 unfolding bytes
 kept-again {s} {ts} n d l h = again (recordsAll ts) n (countOf (number (done ts))) (counted d) (sized d l) (omega (arith, counted d))
 
-accepted-closed : {s : Input} {ts : Trees} (n : ℕ) → Derived s ts → Lent s → length (recordsAll ts) ≤ n / 24 → Closed s (number (done ts)) (bytes n (done ts))
+pub accepted-closed : {s : Input} {ts : Trees} (n : ℕ) → Derived s ts → Lent s → length (recordsAll ts) ≤ n / 24 → Closed s (number (done ts)) (bytes n (done ts))
 accepted-closed {s} {ts} n d l h =
     let b = kept-again n d l h in
     record { trees = ts; derived = d; whole = b .whole; back = b .back; taken = subst (Taken (length (s .text))) (sym (b .back)) (taken d) }

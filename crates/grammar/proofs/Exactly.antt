@@ -18,10 +18,10 @@ use Rattle.grammar.proofs.Theorem.{unique, numbered}
 use Rattle.grammar.proofs.Places.{place-low, same-number}
 
 -- both sides hold, or neither
-both : {A B : Type 0} → A → B → A ↔ B
+pub both : {A B : Type 0} → A → B → A ↔ B
 both a b = (λ _. b, λ _. a)
 
-neither : {A B : Type 0} → (A → ⊥) → (B → ⊥) → A ↔ B
+pub neither : {A B : Type 0} → (A → ⊥) → (B → ⊥) → A ↔ B
 neither f g = (λ a. absurd (f a), λ b. absurd (g b))
 
 -- the first bad token is one
@@ -48,7 +48,7 @@ module _ {s : Input} (g : GoodList s) where
 
 -- ---- by refusal and place
 
-abbrev Is : ℕ → ℕ → ℕ → ℕ → Type 0
+abbrev pub Is : ℕ → ℕ → ℕ → ℕ → Type 0
 Is code place c p = (code ≡ c) × (place ≡ p)
 
 record Only (s : Input) (space code place : ℕ) : Type 0 where
@@ -116,13 +116,13 @@ module _ {s : Input} {space : ℕ} where
 -- ---- by the number
 
 -- of a refusal
-numbers : {code place c p : ℕ} {B : Type 0} → place < 4294967296 → p < 4294967296 → Is code place c p ↔ B → (number (stopped code place) ≡ number (stopped c p)) ↔ B
+pub numbers : {code place c p : ℕ} {B : Type 0} → place < 4294967296 → p < 4294967296 → Is code place c p ↔ B → (number (stopped code place) ≡ number (stopped c p)) ↔ B
 numbers {code} {place} {c} {p} l h b = (λ e. b .0 (same-number l h e), λ y. back (b .1 y))
   where
     back : Is code place c p → number (stopped code place) ≡ number (stopped c p)
     back e = rw (e .0, e .1)
 
-code-is : (code place : ℕ) → place < 4294967296 → refusalOf (number (stopped code place)) ≡ code
+pub code-is : (code place : ℕ) → place < 4294967296 → refusalOf (number (stopped code place)) ≡ code
 unfolding number
 code-is code place l = refused-apart code place l .refusal-is
 
@@ -148,7 +148,7 @@ unfolding number result.accepted
 accepted-low a = omega (arith, a .three, a .derived .list-good .limited .few)
 
 -- a refusal's number is above it
-refused-high : (c p : ℕ) → 0 < c → 72057594037927936 ≤ number (stopped c p)
+pub refused-high : (c p : ℕ) → 0 < c → 72057594037927936 ≤ number (stopped c p)
 unfolding number result.refused
 refused-high c p h = omega arith
 

@@ -30,22 +30,22 @@ use Rattle.grammar.proofs.Defs.{exact-defs, defs-within}
 
 -- ---- the whole list
 
--- what is left to say of a list that is within the limits and good
-record Parsed (s : Input) (ts : Trees) : Type 0 where
-  derives : Gram s (list definition) 0 (size s) ts
-  shallow : deepest ts ≤ 64
+-- what parsing says of any list; of one that is within the limits and good there is nothing else to say
+pub record Parsed (s : Input) (ts : Trees) : Type 0 where
+  pub derives : Gram s (list definition) 0 (size s) ts
+  pub shallow : deepest ts ≤ 64
 
 module _ (s : Input) where
-  parsed : (ts : Trees) (j : ℕ) → parseDefs s 0 ≡ accept ts j → Parsed s ts
+  pub parsed : (ts : Trees) (j : ℕ) → parseDefs s 0 ≡ accept ts j → Parsed s ts
   parsed ts j e =
       let w = exact-defs s .sound 0 e in
       let h : j ≡ size s = omega (arith, w .whole, defs-within s (w .derives) (omega arith)) in
       record { derives = subst (λ (k : ℕ). Gram s (list definition) 0 k ts) h (w .derives); shallow = w .shallow }
 
-  parses : (ts : Trees) → Parsed s ts → parseDefs s 0 ≡ accept ts (size s)
+  pub parses : (ts : Trees) → Parsed s ts → parseDefs s 0 ≡ accept ts (size s)
   parses ts p = exact-defs s .complete 0 (record { derives = p .derives; shallow = p .shallow; whole = omega arith })
 
-  one-parse : (ts us : Trees) → Parsed s ts → Parsed s us → us ≡ ts
+  pub one-parse : (ts us : Trees) → Parsed s ts → Parsed s us → us ≡ ts
   one-parse ts us p q = let a = parses ts p in let b = parses us q in cc
 
 -- ---- good tokens

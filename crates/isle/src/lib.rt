@@ -11,6 +11,7 @@ ghost use Rattle.reading.specs.Answered.{Answered};
 ghost use Rattle.texts.specs.TextReading.{textReading};
 ghost use Rattle.grammar.specs.Meaning.{Worth};
 ghost use Rattle.closed.specs.Closed.{Closed};
+ghost use Rattle.text_grammar.specs.TextMeaning.{TextWorth, TextClosed};
 ghost use Rattle.templating.specs.Calls.{Ended, making, substituting};
 ghost use Rattle.openings.specs.Calls.{Left, openingOf};
 ghost use Rattle.openings.specs.Meaning.{OpeningWorth};
@@ -31,9 +32,16 @@ pub extern "C" fn isle_read(tokens: &[u8], text: &[u8], end: u32, out: &mut [u8]
 }
 
 // The records of the definitions that the text is, or one refusal with its place. `answer` fixes the returned number and every byte of the output.
+// `meaning` says what they are worth. An acceptance: the text is within the limit and has no byte of 128 or more, the lexer makes at most 16,384 tokens of all of
+// it and refuses none, the grammar derives them as these trees and no others, nested at most 64 deep, and their records fit. 41: the first byte of 128 or more
+// stands there. 40: the lexer refuses there, behind tokens that it does not refuse. 7: the text is too long, or the lexer makes 16,385 tokens. 8 and 10 to 27:
+// nothing is derived, and the place is the position of a token that the lexer makes, or the end. 6: the text is derived, and its records are more than the space.
+// `closed`: what is accepted, `isle_open` takes as a definition list.
 #[no_mangle]
 pub extern "C" fn isle_read_text(text: &[u8], out: &mut [u8]) -> u64
     ensures answer { λ r. ⌜ Answered (textReading (now (text .entry)) (slots (now (out .entry)))) (length (now (out .entry))) (now (out .exit)) r ⌝ }
+    ensures meaning { λ r. ⌜ TextWorth (now (text .entry)) (slots (now (out .entry))) (length (now (out .entry))) r (now (out .exit)) ⌝ }
+    ensures closed { λ r. ⌜ (refusalOf r ≡ 0 → TextClosed (now (text .entry)) r (now (out .exit))) ⌝ }
 {
     texts::read_text(text, out)
 }

@@ -82,7 +82,8 @@ module _ (text : List ℕ) where
   none-left h none = (refl, refl)
   none-left {k = k} h (more {j = j} {t = t} e l) = absurd (no-token (nextToken text k) t j h e)
 
-  no-further : {k m : ℕ} {ts us : List Token} → Still (nextToken text k) → Further text ts us k m → (us ≡ ts) × (k ≡ m)
+  -- where no token is made, nothing goes on
+  pub no-further : {k m : ℕ} {ts us : List Token} → Still (nextToken text k) → Further text ts us k m → (us ≡ ts) × (k ≡ m)
   no-further {ts = ts} h f = let z = none-left h (f .goes) in (f .joined ∙ ap (ts ++_) (z .0) ∙ append-nil ts, z .1)
 
   -- two runs from i that go on until no token is made are one

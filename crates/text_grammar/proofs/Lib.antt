@@ -1,1 +1,5 @@
 pub mod TokenLaws
+pub mod ByteLaws
+pub mod Theorem
+pub mod Exactly
+pub mod AsLent

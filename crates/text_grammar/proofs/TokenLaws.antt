@@ -7,7 +7,7 @@ use mathlib.Core.Bool.{Bool, true, false}
 use lib.ListN.{length, getD, take, drop, replicate, length-append, length-replicate, List·getD-append}
 use lib.Seq.{length-take-le, split-at}
 use lib.Dec.{ltb, eqb}
-use borrow.Author.Tests.{lt-ltb, eqb-true, eqb-false}
+use borrow.Author.Tests.{ltb-true, ltb-false, lt-ltb, le-ltb, eqb-true, eqb-false}
 use Rattle.trees.specs.declared.Rec.{Rec}
 use Rattle.words.specs.Words.{halfAt, wordAt, be4, be8}
 use Rattle.records.specs.Slots.{word0, recAt, recsFrom}
@@ -197,6 +197,26 @@ good-index text ts i b a p h =
     let d : Token = token 0 0 0 0 in
     let g = good-at text (take i ts) (drop (suc i) ts) (getD ts i d) b a (all-at (Proper text) ts i d h p) in
     rw (← split-at ts i d h, length-take-le i ts (omega arith)) at g
+
+-- the kind of a proper token, and of what is past the last one
+kind-index : (text : List ℕ) (ts : List Token) (i : ℕ) → length text ≤ 65536 → All (Proper text) ts → i < length ts → peek (tokenInput text ts) i .kind ≤ 5
+kind-index text ts i b p h =
+    let d : Token = token 0 0 0 0 in
+    let q = all-at (Proper text) ts i d h p in
+    let e = token-at text (take i ts) (drop (suc i) ts) (getD ts i d) (proper-fits text (getD ts i d) b q) in
+    let k : peek (tokenInput text ts) i ≡ getD ts i d = rw (← split-at ts i d h, length-take-le i ts (omega arith)) at e in
+    omega (arith, ap (λ (t : Token). t .kind) k, q .kind-most)
+
+past-kind : (text : List ℕ) (ts : List Token) (i : ℕ) → length ts ≤ i → peek (tokenInput text ts) i .kind ≤ 5
+unfolding tokenAt
+past-kind text ts i h = rw (le-ltb i (tokenCount (tokenBytes ts)) (omega (arith, size-tokens text ts))) (omega arith)
+
+pub kinds : (text : List ℕ) (ts : List Token) (i : ℕ) → length text ≤ 65536 → All (Proper text) ts → peek (tokenInput text ts) i .kind ≤ 5
+kinds text ts i b p = go (ltb i (length ts)) refl
+  where
+    go : (x : Bool) → ltb i (length ts) ≡ x → peek (tokenInput text ts) i .kind ≤ 5
+    go true e = kind-index text ts i b p (ltb-true i (length ts) e)
+    go false e = past-kind text ts i (ltb-false i (length ts) e)
 
 -- the tokens of a text are a good list, if they are proper and few
 pub good-tokens : (text : List ℕ) (ts : List Token) → length text ≤ 65536 → ascii text ≡ true → All (Proper text) ts → length ts ≤ 16384 → GoodList (tokenInput text ts)

@@ -181,7 +181,7 @@ ascii-end (c ∷ cs) i e = go (leb 128 c) refl e (λ h. ascii-end cs (i + 1) h)
     go true p q f = absurd (false≢true q)
     go false p q f = rw (lt-ltb c 128 (leb-false 128 c p)) (f q ∙ omega arith)
 
-ascii-before : (cs : List ℕ) (i : ℕ) → ascii cs ≡ false → runEnd isAscii cs i < i + length cs
+pub ascii-before : (cs : List ℕ) (i : ℕ) → ascii cs ≡ false → runEnd isAscii cs i < i + length cs
 unfolding ascii runEnd isAscii
 ascii-before [] i e = absurd (false≢true (sym e))
 ascii-before (c ∷ cs) i e = go (leb 128 c) refl e (λ h. ascii-before cs (i + 1) h)
