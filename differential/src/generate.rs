@@ -443,15 +443,19 @@ fn blank(random: &mut Random, needed: bool) -> &'static str {
     }
 }
 
+/// The pieces of one to three definitions, or of a deep one.
+pub fn any_definitions(random: &mut Random) -> Vec<String> {
+    if random.once_in(40) {
+        return deep_pieces(random);
+    }
+    let mut pieces = Pieces::new(random);
+    (0..1 + pieces.random.below(3)).for_each(|_| pieces.definition());
+    pieces.list
+}
+
 /// A random text: one to three definitions, or a deep one.
 pub fn any_text(random: &mut Random) -> String {
-    let mut list = if random.once_in(40) {
-        deep_pieces(random)
-    } else {
-        let mut pieces = Pieces::new(random);
-        (0..1 + pieces.random.below(3)).for_each(|_| pieces.definition());
-        pieces.list
-    };
+    let mut list = any_definitions(random);
     while random.once_in(3) && !list.is_empty() {
         damage_pieces(random, &mut list);
     }

@@ -151,6 +151,22 @@ pub fn deep_texts(depth: usize) -> Vec<String> {
     ]
 }
 
+/// The tokens of a text that has no comments, as they are written.
+pub fn pieces_of(text: &str) -> Vec<&str> {
+    let lent = lex(text).expect("a good text");
+    let starts: Vec<usize> = lent
+        .tokens
+        .iter()
+        .map(|words| lower(words[0]) as usize)
+        .collect();
+    let ends = starts.iter().skip(1).copied().chain([text.len()]);
+    starts
+        .iter()
+        .zip(ends)
+        .map(|(&start, end)| text[start..end].trim())
+        .collect()
+}
+
 /// How often an item fits between two pieces of text: no more tokens and bytes than are read.
 pub fn most_items(before: &str, item: &str, after: &str) -> usize {
     let tokens = |text: &str| lex(text).expect("a good text").tokens.len();

@@ -13,6 +13,7 @@ unsafe extern "C" {
         out: *mut u8,
         out_length: usize,
     ) -> u64;
+    fn isle_read_text(text: *const u8, text_length: usize, out: *mut u8, out_length: usize) -> u64;
     fn isle_make_template(
         text: *const u8,
         text_length: usize,
@@ -61,6 +62,10 @@ pub fn read(tokens: &[u8], text: &[u8], end: u32, out: &mut [u8]) -> u64 {
             out.len(),
         )
     }
+}
+
+pub fn read_text(text: &[u8], out: &mut [u8]) -> u64 {
+    unsafe { isle_read_text(text.as_ptr(), text.len(), out.as_mut_ptr(), out.len()) }
 }
 
 /// Calls an entry on the text and the two lists, with these outputs.

@@ -6,7 +6,8 @@ use crate::records::*;
 /// The depth that is still read.
 pub const DEEPEST: usize = 64;
 
-const UNCOVERED: [&[u8]; 6] = [
+/// The words of the definitions that are not covered.
+pub const UNCOVERED: [&[u8]; 6] = [
     b"spec",
     b"macro",
     b"state",

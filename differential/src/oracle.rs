@@ -29,7 +29,7 @@ pub fn lex(text: &str) -> Option<Lent> {
     })
 }
 
-fn token_record(position: u32, token: &lexer::Token) -> Words {
+pub fn token_record(position: u32, token: &lexer::Token) -> Words {
     match token {
         lexer::Token::LParen => mark_token(LEFT, position),
         lexer::Token::RParen => mark_token(RIGHT, position),
@@ -39,11 +39,10 @@ fn token_record(position: u32, token: &lexer::Token) -> Words {
     }
 }
 
-/// The crate's reading of a text that its lexer takes whole.
+/// The crate's reading of a text, which its lexer may refuse.
 pub fn read_text(text: &str) -> Outcome {
     let places = Places::unmoved();
-    let lexer = Lexer::new(0, text).expect("a text that the lexer takes");
-    places.outcome(parser::parse(lexer))
+    places.outcome(Lexer::new(0, text).and_then(parser::parse))
 }
 
 /// The crate's reading of a token list, by writing the tokens out as a text of their own.
@@ -380,6 +379,13 @@ fn refusal_number(msg: &str) -> u8 {
         ("Not a valid verification attribute", 21),
         ("Invalid extern", 22),
         ("Invalid expression", 26),
+        // The lexer's.
+        ("Unexpected character", 40),
+        ("unterminated block comment", 40),
+        ("cannot parse integer from empty string", 40),
+        ("invalid digit found in string", 40),
+        ("number too large to fit in target type", 40),
+        ("integer literal cannot fit in i128", 40),
     ];
     for (words, number) in first_words {
         if msg.starts_with(words) {

@@ -6,6 +6,7 @@ mod reading;
 mod run_lists;
 mod run_opening;
 mod run_templates;
+mod run_texts;
 
 use differential::generate::Random;
 use differential::outputs::*;
@@ -42,10 +43,21 @@ impl Counts {
         self.inputs += 1;
         let count = outcome.as_ref().map_or(0, Vec::len);
         for length in lengths(count, more) {
-            let expected = answer(outcome, length);
-            same_answer(&expected, &call_with(length, &call)?)?;
-            self.add_call(expected.result);
+            self.compare_at(outcome, length, &call)?;
         }
+        Ok(())
+    }
+
+    /// Makes a call with an output of so many bytes.
+    pub fn compare_at(
+        &mut self,
+        outcome: &Outcome,
+        length: usize,
+        call: impl Fn(&mut [u8]) -> u64,
+    ) -> Result<(), String> {
+        let expected = answer(outcome, length);
+        same_answer(&expected, &call_with(length, &call)?)?;
+        self.add_call(expected.result);
         Ok(())
     }
 
@@ -88,6 +100,7 @@ fn compare() -> Result<(), String> {
         println!("{line}");
     }
     println!("{}", run_opening::compare(&mut random, count / 4)?);
+    println!("{}", run_texts::compare(&mut random, count)?);
     Ok(())
 }
 

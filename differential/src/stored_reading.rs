@@ -115,7 +115,7 @@ fn hand_written(stored: &mut Stored) -> Result<(), String> {
 /// Each whole text, damaged at every token in each of several ways.
 fn every_token_damaged(stored: &mut Stored) -> Result<(), String> {
     for text in hand::WHOLE {
-        let pieces = pieces_of(text);
+        let pieces = hand::pieces_of(text);
         for i in 0..pieces.len() {
             for put in ["", "(", ")", "x", "5", "@"] {
                 let mut damaged = pieces.clone();
@@ -126,22 +126,6 @@ fn every_token_damaged(stored: &mut Stored) -> Result<(), String> {
         }
     }
     Ok(())
-}
-
-/// The tokens of a text that has no comments, as they are written.
-fn pieces_of(text: &str) -> Vec<&str> {
-    let lent = lex(text).expect("a good text");
-    let starts: Vec<usize> = lent
-        .tokens
-        .iter()
-        .map(|words| lower(words[0]) as usize)
-        .collect();
-    let ends = starts.iter().skip(1).copied().chain([text.len()]);
-    starts
-        .iter()
-        .zip(ends)
-        .map(|(&start, end)| text[start..end].trim())
-        .collect()
 }
 
 fn random(stored: &mut Stored) -> Result<(), String> {
