@@ -1,9 +1,9 @@
 /* The C interface of libisle.a, which `rt staticlib isle` makes for x86-64 Linux. C99 and C++11.
 
-   Four entries work on buffers that the caller lends: isle_read makes definition records of tokens,
-   isle_make_template and isle_substitute work on single patterns, and isle_open shows a pattern with
-   its extractors opened. Each returns one number, the result, and nothing else is kept or changed:
-   there is no global state and no allocation.
+   Five entries work on buffers that the caller lends: isle_read makes definition records of tokens,
+   isle_read_text of text, isle_make_template and isle_substitute work on single patterns, and
+   isle_open shows a pattern with its extractors opened. Each returns one number, the result, and
+   nothing else is kept or changed: there is no global state and no allocation.
 
    What the entries do with every input is written and proved in crates/isle/src/lib.rt. This file
    is not proved: it says the same layout again for C. */
@@ -121,7 +121,7 @@ enum isle_flag {
    Refused: the count is 0, and every output is zero to its end. */
 
 /* What the place of a refusal is:
-     reading: 2 the index of the token; 8 and 10 to 27 a position, which is an offset in the text;
+     reading: 2 the index of the token; 8, 10 to 27, 40 and 41 a position, which is an offset in the text;
      the other entries: 4, 5, 8 and 30 to 33 the index of a record, from 0. In substitution it counts
      the template's records. In opening it counts the definitions' records, and the pattern's go on
      after them;
@@ -158,7 +158,9 @@ enum isle_refusal {
     ISLE_REFUSAL_EXTRACTOR_NAME = 30,
     ISLE_REFUSAL_ARGUMENT_COUNT = 31,
     ISLE_REFUSAL_CALL_ORDER = 32,
-    ISLE_REFUSAL_TOO_MANY_EXTRACTORS = 33
+    ISLE_REFUSAL_TOO_MANY_EXTRACTORS = 33,
+    ISLE_REFUSAL_NOT_A_TOKEN = 40,
+    ISLE_REFUSAL_NOT_ASCII = 41
 };
 
 /* A short English text for a refusal's number; another number gives "unknown refusal". */
@@ -196,6 +198,8 @@ static inline const char *isle_refusal_text(int refusal)
     case ISLE_REFUSAL_ARGUMENT_COUNT: return "wrong number of arguments";
     case ISLE_REFUSAL_CALL_ORDER: return "template calls its own or a later extractor";
     case ISLE_REFUSAL_TOO_MANY_EXTRACTORS: return "more than 256 extractors";
+    case ISLE_REFUSAL_NOT_A_TOKEN: return "not a token: bad character, bad number or open comment";
+    case ISLE_REFUSAL_NOT_ASCII: return "byte that is not ASCII";
     default: return "unknown refusal";
     }
 }
@@ -344,9 +348,10 @@ static inline uint32_t isle_token_position_at(const uint8_t *tokens, size_t inde
    - A pointer is not null. For a buffer of length 0 any address will do; nothing is read or written
      there. (NULL with length 0 is tried by host/test with every parameter, and works in the library as
      built; but the documents of the language do not promise it.)
-   - The stack has 1 MiB left. That is a test, of isle_open at its limits on a thread with no more, and
-     not a theorem. The three entries that take records hold a table of 256 KiB there; isle_read holds
-     no table, and its functions call each other at most as deep as patterns and expressions are nested.
+   - The stack has 1 MiB left. That is a test, of isle_open and isle_read_text at their limits on a thread
+     with no more, and not a theorem. The three entries that take records hold a table of 256 KiB there,
+     isle_read_text one of 384 KiB; isle_read holds no table. The functions of reading call each other at
+     most as deep as patterns and expressions are nested.
    Everything else is tested by the entries: any length, any bytes, any end position.
 
    Alignment: none is needed. Threads: the entries have no state of their own, so calls with buffers of
@@ -357,6 +362,7 @@ static inline uint32_t isle_token_position_at(const uint8_t *tokens, size_t inde
    told, by refusal 6, which means that everything else was accepted and the complete list is
    longer than the space. What is always enough:
    - isle_read: three records for each token (isle_read_space).
+   - isle_read_text: the same, and a token has at least one byte (isle_read_text_space).
    - isle_make_template: as many bytes as the pattern has. A template never has more records.
    - isle_substitute: the records of the template that are no macro arguments, and for each macro argument
      the records of the pattern with its index.
@@ -367,12 +373,23 @@ static inline uint32_t isle_token_position_at(const uint8_t *tokens, size_t inde
 
 #define ISLE_MAX_OUTPUT_BYTES 1572864 /* ISLE_MAX_RECORDS records */
 
+/* Bytes that are always enough for the records of so many tokens, of which no more than may be are read. */
+static inline size_t isle_space_for_tokens(size_t count)
+{
+    const size_t read = count < ISLE_MAX_TOKENS ? count : ISLE_MAX_TOKENS;
+    return 3 * read * ISLE_RECORD_BYTES;
+}
+
 /* Bytes that are always enough for isle_read's output. */
 static inline size_t isle_read_space(size_t tokens_length)
 {
-    const size_t count = tokens_length / ISLE_TOKEN_BYTES;
-    const size_t read = count < ISLE_MAX_TOKENS ? count : ISLE_MAX_TOKENS;
-    return 3 * read * ISLE_RECORD_BYTES;
+    return isle_space_for_tokens(tokens_length / ISLE_TOKEN_BYTES);
+}
+
+/* Bytes that are always enough for isle_read_text's output. */
+static inline size_t isle_read_text_space(size_t text_length)
+{
+    return isle_space_for_tokens(text_length);
 }
 
 /* The records of the definitions that the tokens are. The text is what the symbols stand in; `end` is the
@@ -380,6 +397,16 @@ static inline size_t isle_read_space(size_t tokens_length)
    Refusals: 7, 1, 2; then 8 or 10 to 27, the first from the left; then 6. */
 uint64_t isle_read(const uint8_t *tokens, size_t tokens_length, const uint8_t *text, size_t text_length,
                    uint32_t end, uint8_t *out, size_t out_length);
+
+/* The records of the definitions that a text is: those that isle_read makes of its tokens, the end position
+   being the text's length.
+   Refusals: 7 for the text; 41 at the first byte of 128 or more; then 8, 10 to 27 and 40, the first from the
+   left, and 7 at place 0 where one token more than ISLE_MAX_TOKENS would be looked at; then 6.
+   40 stands where a byte, a comment or a number is no part of the language. Each token is looked at when the
+   one before it is taken. So what is wrong with the kind of the one before, or that no word tried for
+   stands there (19, 22), comes first, and what is wrong with its spelling or value comes after. Behind a
+   rule's name it is 23 at the name instead of 40. */
+uint64_t isle_read_text(const uint8_t *text, size_t text_length, uint8_t *out, size_t out_length);
 
 /* The template of one pattern by its parameters, a list of records of kind 24: a Var that is named as a
    parameter, or a Bind so named over a Wildcard, becomes a macro argument with the first such index.

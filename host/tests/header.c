@@ -80,8 +80,8 @@ static void test_texts(void)
     expect(strcmp(isle_refusal_text(ISLE_REFUSAL_ARGUMENT_COUNT), "wrong number of arguments") == 0, "the text of 31");
     expect(strcmp(isle_refusal_text(9), "unknown refusal") == 0, "the text of 9");
     expect(strcmp(isle_refusal_text(-1), "unknown refusal") == 0, "the text of -1");
-    /* 1 to 8, 10 to 27, 30 to 33 */
-    expect(refusals_with_a_text() == 8 + 18 + 4, "a text for each refusal of the specification");
+    /* 1 to 8, 10 to 27, 30 to 33, 40 and 41 */
+    expect(refusals_with_a_text() == 8 + 18 + 4 + 2, "a text for each refusal of the specification");
 }
 
 /* The records of the rule are: Rule, Term, its name A, Var, its name x, Var, its name y. */
@@ -120,6 +120,31 @@ static void test_entries(void)
     expect(isle_result_refusal(result) == ISLE_REFUSAL_NO_SPACE && isle_result_place(result) == 1, "too little space");
 }
 
+/* Reading the text gives the records that reading its tokens gives. */
+static void test_text_entry(void)
+{
+    static const char name_and_form_feed[] = "(rule n \f";
+    uint8_t tokens[RULE_TOKENS * ISLE_TOKEN_BYTES];
+    uint8_t records[3 * RULE_TOKENS * ISLE_RECORD_BYTES];
+    uint8_t again[sizeof records];
+    const size_t size = sizeof rule_text - 1;
+    uint64_t result;
+
+    make_tokens(tokens);
+    result = isle_read(tokens, sizeof tokens, text_bytes(), size, 14, records, sizeof records);
+    expect(isle_read_text_space(size) == 3 * size * ISLE_RECORD_BYTES, "the space for reading text");
+    expect(isle_read_text_space(1000000) == isle_read_space(ISLE_MAX_TOKENS * ISLE_TOKEN_BYTES), "the most of it");
+    expect(isle_read_text(text_bytes(), size, again, sizeof again) == result, "reading text");
+    expect(memcmp(records, again, sizeof records) == 0, "text and tokens give the same records");
+    result = isle_read_text((const uint8_t *)name_and_form_feed, 9, again, sizeof again);
+    expect(result == ((uint64_t)ISLE_REFUSAL_RULE_NAME << 56 | 6), "a bad byte behind the name of a rule");
+    result = isle_read_text((const uint8_t *)name_and_form_feed + 1, 8, again, sizeof again);
+    expect(result == (uint64_t)ISLE_REFUSAL_UNEXPECTED_TOKEN << 56, "a bad byte further on");
+    result = isle_read_text((const uint8_t *)name_and_form_feed + 8, 1, again, sizeof again);
+    expect(result == (uint64_t)ISLE_REFUSAL_NOT_A_TOKEN << 56, "a bad byte");
+    expect(isle_result_refusal(isle_read_text(text_bytes(), size, again, 6 * ISLE_RECORD_BYTES)) == 6, "six records");
+}
+
 /* Every buffer is NULL with length 0. */
 static void test_null(void)
 {
@@ -133,6 +158,8 @@ static void test_null(void)
     isle_put_mark(mark, 0, ISLE_TOKEN_LPAREN, 0);
     expect(isle_read(NULL, 0, NULL, 0, 0, NULL, 0) == 0, "reading nothing");
     expect(isle_result_refusal(isle_read(mark, sizeof mark, NULL, 0, 1, NULL, 0)) == 11, "reading a parenthesis");
+    expect(isle_read_text(NULL, 0, NULL, 0) == 0, "reading no text");
+    expect(isle_read_text(text_bytes(), sizeof rule_text - 1, NULL, 0) == no_space, "reading text, no space");
     expect(isle_result_refusal(isle_make_template(NULL, 0, NULL, 0, NULL, 0, NULL, 0)) == 3, "a template of nothing");
     expect(isle_make_template(NULL, 0, one, sizeof one, NULL, 0, NULL, 0) == no_space, "a template, no space");
     expect(isle_result_is_accepted(isle_make_template(NULL, 0, one, sizeof one, NULL, 0, out, sizeof out)),
@@ -152,6 +179,7 @@ int main(void)
     test_token();
     test_texts();
     test_entries();
+    test_text_entry();
     test_null();
     return wrong;
 }
