@@ -27,16 +27,16 @@ void print_too_large(void)
     putchar('\n');
 }
 
-void print_refused_reading(const struct source *source, const struct token_file *file, uint64_t result)
+void print_refused_reading(const struct source *source, const struct input *input, uint64_t result)
 {
     const int refusal = isle_result_refusal(result);
     const uint32_t place = isle_result_place(result);
     char which[40];
 
     print_number_and_text(refusal);
-    if (refusal == ISLE_REFUSAL_BAD_TOKEN && place < file->token_count) {
+    if (refusal == ISLE_REFUSAL_BAD_TOKEN && place < input->token_count) {
         snprintf(which, sizeof which, " (token %lu)", (unsigned long)place);
-        print_position_and_line(source, isle_token_position_at(file->tokens, place), which);
+        print_position_and_line(source, isle_token_position_at(input->tokens, place), which);
     } else if (refusal >= ISLE_REFUSAL_TOO_DEEP) {
         print_position_and_line(source, place, "");
     } else {

@@ -2,17 +2,17 @@
 #ifndef REFUSAL_H
 #define REFUSAL_H
 
+#include "input.h"
 #include "records.h"
 #include "source.h"
-#include "token_file.h"
 
 #include <stdint.h>
 
-/* A file above the limits on tokens and text bytes. */
+/* A token file above the limits on tokens and text bytes. */
 void print_too_large(void);
 
-/* A result of isle_read. */
-void print_refused_reading(const struct source *source, const struct token_file *file, uint64_t result);
+/* A result of isle_read or isle_read_text. */
+void print_refused_reading(const struct source *source, const struct input *input, uint64_t result);
 
 /* A result of isle_open. */
 void print_refused_opening(const struct source *source, struct record_list definitions, struct record_list pattern,

@@ -1,16 +1,18 @@
-/* Shows the pattern of each rule in a token file with its extractors opened.
-   Usage: show [TOKEN_FILE]; without a file it reads standard input.
+/* Shows the pattern of each rule in an ISLE file with its extractors opened.
+   Usage: show [--tokens] [FILE]; without a file it reads standard input. The file is a text; with --tokens, or if
+   its name ends in .tokens, it is a token file.
    Exit status: 0 every pattern was opened; 1 a refusal; 2 bad usage, or a file that cannot be read or is cut short. */
+#include "input.h"
 #include "isle.h"
 #include "memory.h"
 #include "pattern.h"
 #include "records.h"
 #include "refusal.h"
 #include "source.h"
-#include "token_file.h"
 
 #include <stdio.h>
 #include <stdlib.h>
+#include <string.h>
 
 enum exit_status { ALL_OPENED = 0, REFUSED = 1, FAILED = 2 };
 
@@ -145,10 +147,25 @@ static int open_and_show(const struct source *source, struct record_list definit
     return status;
 }
 
-static int read_and_show(const struct source *source, const struct token_file *file)
+/* Bytes that are always enough for the records. */
+static size_t record_space(const struct input *input)
 {
-    const size_t token_bytes = (size_t)file->token_count * ISLE_TOKEN_BYTES;
-    const size_t space = isle_read_space(token_bytes);
+    return input->tokens != NULL ? isle_read_space((size_t)input->token_count * ISLE_TOKEN_BYTES)
+                                 : isle_read_text_space(input->text_length);
+}
+
+static uint64_t read_input(const struct input *input, uint8_t *records, size_t space)
+{
+    if (input->tokens != NULL) {
+        return isle_read(input->tokens, (size_t)input->token_count * ISLE_TOKEN_BYTES, input->text, input->text_length,
+                         input->end, records, space);
+    }
+    return isle_read_text(input->text, input->text_length, records, space);
+}
+
+static int read_and_show(const struct source *source, const struct input *input)
+{
+    const size_t space = record_space(input);
     uint8_t *records = allocate(space);
     uint64_t result;
     int status;
@@ -156,68 +173,79 @@ static int read_and_show(const struct source *source, const struct token_file *f
     if (records == NULL) {
         return fail("no memory");
     }
-    result = isle_read(file->tokens, token_bytes, file->text, file->text_length, file->end, records, space);
+    result = read_input(input, records, space);
     if (isle_result_is_accepted(result)) {
         const struct record_list definitions = {records, isle_result_count(result)};
         status = open_and_show(source, definitions);
     } else {
-        print_refused_reading(source, file, result);
+        print_refused_reading(source, input, result);
         status = REFUSED;
     }
     free(records);
     return status;
 }
 
-static int show_file(const struct token_file *file)
+static int show_input(const struct input *input)
 {
     struct source source;
     int status;
-    if (!open_source(&source, file->text, file->text_length)) {
+    if (!open_source(&source, input->text, input->text_length)) {
         return fail("no memory");
     }
-    status = read_and_show(&source, file);
+    status = read_and_show(&source, input);
     close_source(&source);
     return status;
 }
 
-static int show_stream(FILE *in)
+static int show_stream(FILE *in, int is_tokens)
 {
-    struct token_file file;
+    struct input input;
     int status = FAILED;
-    switch (load_token_file(in, &file)) {
-    case LOADED: status = show_file(&file); break;
+    switch (is_tokens ? load_tokens(in, &input) : load_text(in, &input)) {
+    case LOADED: status = show_input(&input); break;
     case TOO_LARGE:
         print_too_large();
         status = REFUSED;
         break;
     case CUT_SHORT: status = fail("the token file is cut short"); break;
-    case UNREADABLE: status = fail("the token file cannot be read"); break;
+    case UNREADABLE: status = fail("the file cannot be read"); break;
     case NO_MEMORY: status = fail("no memory"); break;
     }
-    free_token_file(&file);
+    free_input(&input);
     return status;
 }
 
-static int show_path(const char *path)
+static int ends_in_tokens(const char *path)
+{
+    static const char ending[] = ".tokens";
+    const size_t length = strlen(path);
+    const size_t last = sizeof ending - 1;
+    return length >= last && strcmp(path + length - last, ending) == 0;
+}
+
+static int show_path(const char *path, int is_tokens)
 {
     FILE *in = fopen(path, "rb");
     int status;
     if (in == NULL) {
-        return fail("the token file cannot be opened");
+        return fail("the file cannot be opened");
     }
-    status = show_stream(in);
+    status = show_stream(in, is_tokens || ends_in_tokens(path));
     fclose(in);
     return status;
 }
 
 int main(int argc, char **argv)
 {
+    const int is_tokens = argc > 1 && strcmp(argv[1], "--tokens") == 0;
+    const int files = argc - 1 - is_tokens;
+    const char *file = files > 0 ? argv[1 + is_tokens] : NULL;
     int status;
-    if (argc > 2 || (argc == 2 && argv[1][0] == '-')) {
-        fputs("usage: show [TOKEN_FILE]\n", stderr);
+    if (files > 1 || (file != NULL && file[0] == '-')) {
+        fputs("usage: show [--tokens] [FILE]\n", stderr);
         return FAILED;
     }
-    status = argc == 2 ? show_path(argv[1]) : show_stream(stdin);
+    status = file != NULL ? show_path(file, is_tokens) : show_stream(stdin, is_tokens);
     if (fflush(stdout) != 0 || ferror(stdout)) {
         return fail("the output cannot be written");
     }
