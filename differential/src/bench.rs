@@ -9,6 +9,7 @@ mod library;
 
 fn main() {
     bench_reading::reading();
+    bench_reading::reading_text();
     bench_lists::templates();
     bench_lists::substitution();
     bench_opening::opening();

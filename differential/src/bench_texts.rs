@@ -9,6 +9,7 @@ use differential::oracle::{Lent, lex};
 use differential::records::*;
 
 const SEED: u64 = 0x1517_0003;
+const SMALL_TEXTS: usize = 256;
 
 /// Texts that are read one after another, by name.
 pub type Input = (String, Vec<String>);
@@ -39,15 +40,33 @@ pub fn inputs() -> Vec<Input> {
     inputs
 }
 
+/// Texts of one rule, about 100 bytes each.
+pub fn small_inputs() -> Vec<Input> {
+    let mut random = Random::new(SEED);
+    let about = |text: &String| (90..=110).contains(&text.len()) && text.starts_with("( rule ");
+    let one = |_| loop {
+        let text = definition(&mut random, in_practice);
+        if about(&text) {
+            return text;
+        }
+    };
+    let texts: Vec<String> = (0..SMALL_TEXTS).map(one).collect();
+    vec![(format!("{SMALL_TEXTS} texts of one rule"), texts)]
+}
+
 /// Definitions of every kind, with names as long as they are in practice and blanks at the end.
 fn long_text(random: &mut Random, size: usize) -> String {
-    let longer = |piece: &String| match piece.as_str() {
-        "x" | "y" | "z" | "A" | "B" | "T" => format!("{piece}_operand"),
-        _ => piece.clone(),
-    };
-    let text = definitions(random, longer, |text| text.len() <= size);
+    let text = definitions(random, in_practice, |text| text.len() <= size);
     let blanks = " ".repeat(size - text.len());
     text + &blanks
+}
+
+/// A piece, where it is a name about as long as in practice.
+fn in_practice(piece: &String) -> String {
+    match piece.as_str() {
+        "x" | "y" | "z" | "A" | "B" | "T" => format!("{piece}_operand"),
+        _ => piece.clone(),
+    }
 }
 
 /// Definitions of every kind, filled up to the limit on tokens by a last one.
