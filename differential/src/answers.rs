@@ -1,8 +1,9 @@
-//! Writes a file of stored answers. Usage: answers read|template|substitute|open FILE
+//! Writes a file of stored answers. Usage: answers read|text|template|substitute|open FILE
 
 mod stored;
 mod stored_lists;
 mod stored_reading;
+mod stored_texts;
 
 use std::process::ExitCode;
 use stored::Stored;
@@ -24,11 +25,12 @@ fn main() -> ExitCode {
 fn make() -> Result<(), String> {
     let words: Vec<String> = std::env::args().collect();
     let [_, entry, file] = &words[..] else {
-        return Err("usage: answers read|template|substitute|open FILE".to_string());
+        return Err("usage: answers read|text|template|substitute|open FILE".to_string());
     };
     let mut stored = Stored::default();
     match entry.as_str() {
         "read" => stored_reading::make(&mut stored)?,
+        "text" => stored_texts::make(&mut stored)?,
         "template" => stored_lists::make_templates(&mut stored)?,
         "substitute" => stored_lists::make_substitutions(&mut stored)?,
         "open" => stored_lists::make_openings(&mut stored)?,

@@ -129,7 +129,7 @@ fn deepest() -> Vec<Case> {
     let terms = "(A ".repeat(DEEPEST);
     let inside = "(rule ".len() + terms.len();
     let before = MAX_TOKENS - 2 - 2 * DEEPEST;
-    let start = filler(before).len();
+    let start = |count: usize| filler(count).len();
     vec![
         (format!("(rule {terms}"), 8, inside),
         (format!("(rule {terms}@"), 8, inside),
@@ -138,25 +138,27 @@ fn deepest() -> Vec<Case> {
         (
             format!("{}(rule {terms}", filler(before)),
             8,
-            start + inside,
+            start(before) + inside,
         ),
         (format!("{}(rule {terms}x", filler(before)), 7, 0),
         (
             format!("{}(rule {terms}\u{c}", filler(before)),
             40,
-            start + inside,
+            start(before) + inside,
         ),
         (
             format!("{}(rule {terms}x", filler(before - 1)),
             8,
-            start - 2 + inside,
+            start(before - 1) + inside,
         ),
     ]
 }
 
 /// An accepted text of so many tokens, at least seven.
 pub fn filler(tokens: usize) -> String {
-    format!("(type E (enum{}))", " A".repeat(tokens - 7))
+    let variants = tokens - "( type E ( enum ) )".split(' ').count();
+    let (three, one) = ("(A)".repeat(variants / 3), " A".repeat(variants % 3));
+    format!("(type E (enum{three}{one}))")
 }
 
 /// Each hand-written text with each spoiling piece put before its first token, and behind each of
