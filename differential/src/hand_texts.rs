@@ -251,10 +251,21 @@ fn ends_within(pieces: &[&str], within: usize) -> Vec<Vec<u8>> {
     texts
 }
 
-/// Texts about as long as may be: blanks, a name, comments, with what is refused at either end.
+/// Accepted texts about as long as the smaller tables have space for, and with a byte that the lexer
+/// refuses at the end.
+pub fn about_small_texts() -> impl Iterator<Item = Vec<u8>> {
+    let tokens = SMALL_TEXTS
+        .into_iter()
+        .flat_map(|most| most - 12..=most + 1);
+    tokens.flat_map(|count| [filler(count), filler(count) + "\u{c}"].map(String::into_bytes))
+}
+
+/// Texts about as long as may be, or as a smaller table has space for: blanks, a name, comments, as
+/// many tokens as bytes, with what is refused at either end.
 pub fn about_most_bytes() -> impl Iterator<Item = Vec<u8>> {
-    let fillings: [(&str, &str, &str); 7] = [
+    let fillings: [(&str, &str, &str); 8] = [
         ("", " ", ""),
+        ("(", "(", ""),
         ("(attr f)", "\n", ""),
         ("(attr ", "n", ")"),
         ("(pragma ", "n", ")"),
@@ -262,10 +273,11 @@ pub fn about_most_bytes() -> impl Iterator<Item = Vec<u8>> {
         ("(;", "c", ";)(attr f)"),
         ("(rule n (;", "c", ""),
     ];
-    let lengths = [MAX_TEXT - 1, MAX_TEXT, MAX_TEXT + 1];
+    let limits = SMALL_TEXTS.into_iter().chain([MAX_TEXT]);
+    let lengths: Vec<usize> = limits.flat_map(|most| [most - 1, most, most + 1]).collect();
     fillings.into_iter().flat_map(move |filling| {
         let each = |length: usize| spoilt_ends(&filled(filling, length));
-        lengths.into_iter().flat_map(each).collect::<Vec<_>>()
+        lengths.iter().copied().flat_map(each).collect::<Vec<_>>()
     })
 }
 

@@ -7,6 +7,9 @@ pub const MAX_RECORDS: usize = 65_536;
 /// The most records of a list for which the library takes each of its smaller tables.
 pub const SMALL_TABLES: [usize; 2] = [256, 4_096];
 
+/// The most bytes of a text for which the library takes each of its smaller tables.
+pub const SMALL_TEXTS: [usize; 3] = [256, 1_024, 4_096];
+
 /// Lengths about as long as the smaller tables.
 pub fn about_small_tables() -> impl Iterator<Item = usize> {
     SMALL_TABLES.into_iter().flat_map(|most| [most - 1, most, most + 1])

@@ -17,6 +17,7 @@ pub fn compare(random: &mut Random, count: u64) -> Result<String, String> {
         .chain(cut_everywhere())
         .chain(deep_and_spoilt())
         .chain(about_most_tokens())
+        .chain(about_small_texts())
         .chain(about_most_bytes());
     for text in texts {
         compare_text(&text, 50, &mut counts)?;
