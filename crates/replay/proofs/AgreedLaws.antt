@@ -11,12 +11,13 @@ use Rattle.records.specs.Slots.{slots}
 use Rattle.tokens.specs.Input.{input}
 use Rattle.parser.specs.Reading.{reading}
 use Rattle.reading.specs.Answered.{Answered}
+use Rattle.texts.specs.TextReading.{textReading}
 use Rattle.templates.specs.Answers.{space}
 use Rattle.templating.specs.Calls.{Ended, making, substituting}
 use Rattle.opening.specs.Answers.{spaceOf}
 use Rattle.openings.specs.Calls.{Left, openingOf}
 use Rattle.replay.specs.declared.output_cases.Entry.{Entry}
-use Rattle.replay.specs.declared.output_cases.Entry.the-variants.{Read, Make, Fill}
+use Rattle.replay.specs.declared.output_cases.Entry.the-variants.{Read, Text, Make, Fill}
 use Rattle.replay.specs.Said.{says, saysBoth, said, opened}
 use Rattle.replay.specs.Agreed.{held, agreed, agreedBoth}
 
@@ -27,6 +28,10 @@ module _ (entry : Entry) (text first second : List ℕ) (end : ℕ) where
     pub said-read : entry ≡ Read → Answered (reading (input first text end) (slots o)) (length o) l r → says r l ≡ said entry text first second end (length o)
     unfolding said
     said-read e a = rw (e, a .returns, a .output)
+
+    pub said-text : entry ≡ Text → Answered (textReading text (slots o)) (length o) l r → says r l ≡ said entry text first second end (length o)
+    unfolding said
+    said-text e a = rw (e, a .returns, a .output)
 
     pub said-make : entry ≡ Make → Ended (making text first second o) (length o) l r → says r l ≡ said entry text first second end (length o)
     unfolding said making space

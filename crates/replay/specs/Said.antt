@@ -5,10 +5,11 @@ use lib.ListN.{replicate}
 use Rattle.tokens.specs.Input.{input}
 use Rattle.grounds.specs.Opening.{Outcome}
 use Rattle.parser.specs.Reading as reader
+use Rattle.texts.specs.TextReading.{textReading}
 use Rattle.templating.specs.Calls as lists
 use Rattle.openings.specs.Calls as opens
 use Rattle.replay.specs.declared.output_cases.Entry.{Entry}
-use Rattle.replay.specs.declared.output_cases.Entry.the-variants.{Read, Make, Fill}
+use Rattle.replay.specs.declared.output_cases.Entry.the-variants.{Read, Text, Make, Fill}
 
 -- the bytes that are lent to be written: how many they are counts, not what they hold
 abbrev pub lent : ℕ → List ℕ
@@ -32,9 +33,11 @@ ofReading g n = says (reader.number g) (reader.bytes n g)
 abbrev pub ofCall : lists.Call → ℕ → Said
 ofCall c n = says (lists.number c) (lists.bytes n c)
 
--- of a text, two lists and an end position, with an output of n bytes; the tokens are the first list of reading, which has no second one and alone has an end
+-- of a text, two lists and an end position, with an output of n bytes; the tokens are the first list of reading, which has no second one and alone has an end;
+-- reading of text has no list
 unfoldable pub said : Entry → List ℕ → List ℕ → List ℕ → ℕ → ℕ → Said
 said Read text first second end n = ofReading (reader.reading (input first text end) (n / 24)) n
+said Text text first second end n = ofReading (textReading text (n / 24)) n
 said Make text first second end n = ofCall (lists.making text first second (lent n)) n
 said Fill text first second end n = ofCall (lists.substituting text first second (lent n)) n
 

@@ -1,13 +1,15 @@
-// The cases of the entries with one output: reading, template making and substitution. A case of `template.answers` or `substitute.answers`: text
-// length, record counts of the first list, of the second list and of the output (32 bits each), the number returned (64 bits), text, first list,
-// second list, records; the most significant byte first. A case of `read.answers`: token count, text length, end position, record count (32 bits
-// each), the number returned (64 bits), tokens, text, records; the tokens are its first list here, and its second list is empty. The record count
-// is 0 after a refusal. differential/README.md says what the cases are and how the files are made.
+// The cases of the entries with one output: reading, reading of text, template making and substitution. A case of `template.answers` or
+// `substitute.answers`: text length, record counts of the first list, of the second list and of the output (32 bits each), the number returned
+// (64 bits), text, first list, second list, records; the most significant byte first. A case of `text.answers` is the same with two empty lists. A
+// case of `read.answers`: token count, text length, end position, record count (32 bits each), the number returned (64 bits), tokens, text,
+// records; the tokens are its first list here, and its second list is empty. The record count is 0 after a refusal. differential/README.md says
+// what the cases are and how the files are made.
 use crate::outputs::prefill;
 use crate::outputs::same_answer;
 use crate::outputs::without_space;
 use crate::stored::filled;
 use crate::stored::list_space;
+use crate::stored::text_space;
 use crate::tally::Step;
 use crate::tally::Tally;
 use crate::tally::damaged;
@@ -15,6 +17,7 @@ use crate::tally::stop;
 use reading::read;
 use templating::fill;
 use templating::make;
+use texts::read_text;
 use tokens::Token;
 use words::word;
 ghost use mathlib.Core.Path.{_≡_};
@@ -28,6 +31,7 @@ ghost use Rattle.replay.specs.SmallCase.{SmallCase};
 
 pub enum Entry {
     Read,
+    Text,
     Make,
     Fill,
 }
@@ -48,6 +52,7 @@ fn answer_of(entry: Entry, text: &[u8], first: &[u8], second: &[u8], end: u32, o
 {
     match entry {
         Entry::Read => return read(first, text, end, out),
+        Entry::Text => return read_text(text, out),
         Entry::Make => return make(text, first, second, out),
         Entry::Fill => return fill(text, first, second, out),
     }
@@ -189,6 +194,7 @@ fn lists_of(head: &[u8; 24], entry: Entry) -> Case {
 fn case_of(head: &[u8; 24], entry: Entry) -> Case {
     match entry {
         Entry::Read => return reading_of(head),
+        Entry::Text => return lists_of(head, entry),
         Entry::Make => return lists_of(head, entry),
         Entry::Fill => return lists_of(head, entry),
     }
@@ -198,7 +204,7 @@ fn case_of(head: &[u8; 24], entry: Entry) -> Case {
 fn is_small(c: Case) -> bool
     ensures { λ r. ⌜ (r ≡ true → SmallCase c) ⌝ }
 {
-    if 4096 < c.text {
+    if 65537 < c.text {
         return false;
     }
     if 24576 < c.first {
@@ -221,6 +227,7 @@ fn filled_both(fd: i32, a: &mut [u8], b: &mut [u8]) -> bool {
 fn filled_inputs(fd: i32, entry: Entry, text: &mut [u8], first: &mut [u8]) -> bool {
     match entry {
         Entry::Read => return filled_both(fd, first, text),
+        Entry::Text => return filled_both(fd, text, first),
         Entry::Make => return filled_both(fd, text, first),
         Entry::Fill => return filled_both(fd, text, first),
     }
@@ -264,7 +271,7 @@ fn lend(
     tally: Tally,
 ) -> Step
     requires { ⌜ SmallCase c ⌝ }
-    requires { ⌜ 4096 ≡ length (now text) ⌝ }
+    requires { ⌜ 65537 ≡ length (now text) ⌝ }
     requires { ⌜ 24576 ≡ length (now first) ⌝ }
     requires { ⌜ 24576 ≡ length (now second) ⌝ }
     requires { ⌜ 24576 ≡ length (now records) ⌝ }
@@ -290,7 +297,7 @@ fn lend(
 fn replay_case(fd: i32, c: Case, tally: Tally) -> Step
     requires { ⌜ SmallCase c ⌝ }
 {
-    let mut text = io::buffer();
+    let mut text = text_space();
     let mut first = list_space();
     let mut second = list_space();
     let mut records = list_space();
