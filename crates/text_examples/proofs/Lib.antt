@@ -1,0 +1,2 @@
+-- That the worked cases come out is in Examples.antt.
+pub mod Examples

@@ -1,0 +1,1 @@
+// No code: definitions and theorems stand in specs/ and proofs/.
