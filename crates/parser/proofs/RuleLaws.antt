@@ -1,4 +1,4 @@
--- Rules: their flags, their priority, and how far they read. Assumes nothing.
+-- Rules: their name, their priority, their flags, and how far they read. Assumes nothing.
 use Prim.Native.Nat.{ℕ, zero, suc, _+_, _-_, _*_, _<_, _≤_}
 use native.Mathlib.Omega.{arith}
 use native.Mathlib.Nat.{add-zero}
@@ -23,8 +23,8 @@ use Rattle.steps.specs.declared.Parsed.{Parsed}
 use Rattle.steps.specs.declared.Parsed.the-variants.{Accepted, Refused}
 use Rattle.steps.proofs.Parsed.{the-type}
 use Rattle.steps.specs.Outcome.{Outcome, Reader, accept, refuse, refusal, _⊳_, flagged, nothing, refuseAfter, ifNext, ifSecond, many, nameBy, refusedAs}
-use Rattle.steps.specs.Met.{Met, Chained, Closed, Leafed, inside, tokenFor, secondFor, Flags}
-use Rattle.steps.proofs.MetLaws.{begun, leaf-met, agree, flagged-read}
+use Rattle.steps.specs.Met.{Met, Chained, Closed, Leafed, inside, tokenFor, secondFor, moved, Flags}
+use Rattle.steps.proofs.MetLaws.{begun, leaf-met, agree, next-yes, second-yes, second-no, refusing-after, flagged-read}
 use Rattle.steps.proofs.SizeLaws.{Bounded, Sized, Steady, steady, sized-accept, sized-refuse, sized-choose, less-bounded, then-bounded, flagged-bounded, next-bounded, second-bounded, after-bounded, nothing-bounded, other-bounded, met-there, int-kinded}
 use Rattle.patterns.specs.Pattern.{parsePattern}
 use Rattle.patterns.proofs.PatternLaws.{pattern-bounded}
@@ -96,6 +96,17 @@ module _ (tokens text : List ℕ) (end place : ℕ) (p : Parsed) (t : Token) (a 
 
   pub priority-read : (b : Bool) (r : Parsed) (l′ : List ℕ) → t ≡ tokenFor tokens end p → a ≡ isInt t → a ≡ true → b ≡ isI64 (t .word1) (t .word2) → b ≡ true → Leafed (head Priority 0 0 (t .word2) 0) p l l′ r → Chained (rulePriority (input tokens text end) place) p l l′ r
   priority-read b r l′ x y z u v w = read-by tokens text end place p r l l′ (ap isInt (sym x) ∙ sym y ∙ z) (ap (λ (d : Token). isI64 (d .word1) (d .word2)) (sym x) ∙ sym u ∙ v) (rw x at w)
+
+-- ---- the name
+
+module _ (tokens text : List ℕ) (end : ℕ) (p r : Parsed) (t u : Token) (a b : Bool) (l : List ℕ) where
+  pub name-refused : r ≡ moved (refuseAfter (input tokens text end) 3 23) p → t ≡ tokenFor tokens end p → a ≡ isSymbol t → a ≡ true → u ≡ secondFor tokens end p → b ≡ isRefused u → b ≡ true → Chained (ruleName (input tokens text end)) p l l r
+  unfolding ruleName
+  name-refused e x y z v w q = next-yes _ _ _ _ _ _ _ _ _ _ _ _ x y z (second-yes _ _ _ _ _ _ _ _ _ _ _ _ v w q (refusing-after _ _ _ _ _ _ e))
+
+  pub name-read : (l′ : List ℕ) → Chained (nameBy (input tokens text end) (refusedAs 23) (λ w. w)) p l l′ r → t ≡ tokenFor tokens end p → a ≡ isSymbol t → a ≡ true → u ≡ secondFor tokens end p → b ≡ isRefused u → b ≡ false → Chained (ruleName (input tokens text end)) p l l′ r
+  unfolding ruleName
+  name-read l′ m x y z v w q = next-yes _ _ _ _ _ _ _ _ _ _ _ _ x y z (second-no _ _ _ _ _ _ _ _ _ _ _ _ v w q m)
 
 -- ---- the flags
 

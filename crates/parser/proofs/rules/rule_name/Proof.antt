@@ -1,6 +1,7 @@
-use Rattle.steps.proofs.MetLaws.{next-yes, next-no, second-yes, second-no, refusing-after, nothing-read}
+use Rattle.steps.proofs.MetLaws.{next-no, nothing-read}
 use Rattle.steps.proofs.SizeLaws.{near-ready}
 use Rattle.parser.specs.Defs.{ruleName}
+use Rattle.parser.proofs.RuleLaws.{name-refused, name-read}
 use borrow.Author.Needs.{needs}
 use Rattle.parser.proofs.rules.rule_name.Statement.{statement}
 use Rattle.parser.proofs.rules.rule_name.Tie as tie
@@ -24,15 +25,13 @@ same-length : tie.Need-same-length
 same-length c = search needs
 
 returns : tie.Need-returns
-unfolding ruleName
-returns c = next-yes _ _ _ _ _ _ _ _ _ _ _ _ (c .before .before .before .before .before .before .next-token .ensures) (c .before .before .before .before .before .is-symbol .ensures) (c .before .before .before .before .if1 .taken) (second-yes _ _ _ _ _ _ _ _ _ _ _ _ (c .before .before .before .second-token .ensures) (c .before .before .is-refused .ensures) (c .before .if2 .taken) (refusing-after _ _ _ _ _ _ (c .refuse-after .ensures)))
+returns c = search name-refused fits 10000
 
 parse-name-or-requires : tie.Need-parse-name-or-requires
 parse-name-or-requires c κs = search needs
 
 returns-2 : tie.Need-returns-2
-unfolding ruleName
-returns-2 c = next-yes _ _ _ _ _ _ _ _ _ _ _ _ (c .before .before .before .before .before .before .before .before .before .next-token .ensures) (c .before .before .before .before .before .before .before .before .is-symbol .ensures) (c .before .before .before .before .before .before .before .if1 .taken) (second-no _ _ _ _ _ _ _ _ _ _ _ _ (c .before .before .before .before .before .before .second-token .ensures) (c .before .before .before .before .before .is-refused .ensures) (c .before .before .before .before .if2 .left) (c .before .before .parse-name-or .ensures))
+returns-2 c = search name-read
 
 returns-3 : tie.Need-returns-3
 unfolding ruleName
