@@ -1,2 +1,3 @@
--- That the worked cases come out is in Examples.antt.
+-- That the worked cases come out is in Examples.antt, and what the theorems say of real texts in Worth.antt.
 pub mod Examples
+pub mod Worth

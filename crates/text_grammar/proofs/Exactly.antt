@@ -22,7 +22,7 @@ use Rattle.closed.proofs.Theorem.{accepted-closed}
 use Rattle.lexer.proofs.RangeLaws.{refused-inside}
 use Rattle.lexer.proofs.RunLaws.{front, no-further, proper}
 use Rattle.texts.specs.TextReading.{tokenInput}
-use Rattle.text_grammar.specs.TextMeaning.{Plain, Begins, Whole, TextDerived, TextAccepted, FirstHigh, TooMany, Underived, TextTooLong, TextRefused, too-long, not-ascii, too-many, bad-token, too-deep, no-parse, no-space, TextWorth, accepted, refused, TextClosed, TextFitting, TextExactly}
+use Rattle.text_grammar.specs.TextMeaning.{Plain, Begins, Whole, TextDerived, TextAccepted, FirstHigh, BadToken, TooMany, Underived, TextTooLong, TextRefused, too-long, not-ascii, too-many, bad-token, too-deep, no-parse, no-space, TextWorth, accepted, refused, TextClosed, TextFitting, TextExactly}
 use Rattle.text_grammar.proofs.TokenLaws.{size-tokens, good-tokens, lent-tokens}
 use Rattle.text_grammar.proofs.ByteLaws.{ascii-plain, no-high}
 use Rattle.text_grammar.proofs.Theorem.{derives-all, unique, refused-none}
@@ -120,6 +120,16 @@ numbered (bad-token b) = (omega arith, omega arith)
 numbered (too-deep u x) = (omega arith, omega arith)
 numbered (no-parse k u l h) = (omega arith, omega arith)
 numbered (no-space x) = (omega arith, omega arith)
+
+-- 40 is the lexer's
+pub forty : {text : List ℕ} {space code place : ℕ} → TextRefused text space code place → code ≡ 40 → BadToken text place
+forty (too-long h) e = absurd (omega arith)
+forty (not-ascii h) e = absurd (omega arith)
+forty (too-many m) e = absurd (omega arith)
+forty (bad-token b) e = b
+forty (too-deep u x) e = absurd (omega arith)
+forty (no-parse k u l h) e = absurd (omega arith)
+forty (no-space x) e = absurd (omega arith)
 
 refusal-exactly : {text : List ℕ} {space code place : ℕ} (n : ℕ) → TextRefused text space code place → TextExactly text space n (number (stopped code place)) (bytes n (stopped code place))
 refusal-exactly {code = code} {place = place} n f =
