@@ -197,7 +197,7 @@ module _ (text : List ℕ) (n r space : ℕ) (l′ : List ℕ) where
 
   pub plain : (b : Bool) → length text ≤ 65536 → b ≡ ascii text → b ≡ true → Answered (fitted space (parseText text)) n l′ r → Answered (textReading text space) n l′ r
   unfolding textReading
-  plain b h w k a = 
+  plain b h w k a =
       let z = ascii-end text 0 (sym w ∙ k) in
       rw (le-ltb 65536 (length text) h, le-ltb (runEnd isAscii text 0) (length text) (omega arith)) a
 
