@@ -136,7 +136,7 @@ fn read_65536(text: &[u8], out: &mut [u8]) -> u64
 }
 
 // The table by the text's length.
-fn read_short(text: &[u8], out: &mut [u8]) -> u64
+fn read_plain(text: &[u8], out: &mut [u8]) -> u64
     requires { ⌜ length (now text) ≤ 65536 ⌝ }
     ensures { λ r. ⌜ Answered (fitted (slots (now (out .entry))) (parseText (now (text .entry)))) (length (now (out .entry))) (now (out .exit)) r ⌝ }
 {
@@ -160,10 +160,7 @@ pub fn read_text(text: &[u8], out: &mut [u8]) -> u64
         return refuse(out, 7, 0);
     }
     if is_ascii(text) {
-        if 4096 < text.len() {
-            return read_65536(text, out);
-        }
-        return read_short(text, out);
+        return read_plain(text, out);
     }
     refuse(out, 41, first_high(text) as u32)
 }

@@ -2,7 +2,6 @@ use Rattle.texts.proofs.ReadLaws.{too-long, plain, not-ascii}
 use borrow.Author.Needs.{needs}
 use Rattle.texts.proofs.read_text.Statement.{statement}
 use Rattle.texts.proofs.read_text.Tie as tie
-use Rattle.texts.proofs.read_65536.Reads as read-65536-reads
 
 refuse-requires : tie.Need-refuse-requires
 refuse-requires c κs = search needs
@@ -16,23 +15,14 @@ returns c = search too-long
 is-ascii-requires : tie.Need-is-ascii-requires
 is-ascii-requires c κs = search needs
 
-read-65536-requires : tie.Need-read-65536-requires
-read-65536-requires c κs = search needs
+read-plain-requires : tie.Need-read-plain-requires
+read-plain-requires c κs = search needs
 
 same-length-2 : tie.Need-same-length-2
 same-length-2 c = search needs
 
 returns-2 : tie.Need-returns-2
 returns-2 c = search plain
-
-read-short-requires : tie.Need-read-short-requires
-read-short-requires c κs = search needs
-
-same-length-3 : tie.Need-same-length-3
-same-length-3 c = search needs
-
-returns-3 : tie.Need-returns-3
-returns-3 c = search plain
 
 first-high-requires : tie.Need-first-high-requires
 first-high-requires c κs = search needs
@@ -43,11 +33,11 @@ cast-refuse c = search needs
 refuse-requires-2 : tie.Need-refuse-requires-2
 refuse-requires-2 c κs = search needs
 
-same-length-4 : tie.Need-same-length-4
-same-length-4 c = search needs
+same-length-3 : tie.Need-same-length-3
+same-length-3 c = search needs
 
-returns-4 : tie.Need-returns-4
-returns-4 c = search not-ascii
+returns-3 : tie.Need-returns-3
+returns-3 c = search not-ascii
 
 pub read-text-spec : {M : Type 1} → statement M
 read-text-spec =
@@ -57,14 +47,11 @@ read-text-spec =
     same-length
     returns
     is-ascii-requires
-    read-65536-requires
+    read-plain-requires
     same-length-2
     returns-2
-    read-short-requires
-    same-length-3
-    returns-3
     first-high-requires
     cast-refuse
     refuse-requires-2
-    same-length-4
-    returns-4)
+    same-length-3
+    returns-3)
