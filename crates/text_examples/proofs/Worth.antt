@@ -5,11 +5,11 @@ use mathlib.Core.Path.{_≡_, refl}
 use mathlib.Core.List.{List}
 use Rattle.trees.specs.Tree.{Trees}
 use Rattle.grammar.specs.Examples.{tree}
-use Rattle.exprs.specs.Examples.{tok, sym, id}
-use Rattle.parser.specs.Reading.{Reading, done, stopped, number, reading}
+use Rattle.exprs.specs.Examples.{id}
+use Rattle.parser.specs.Reading.{done, stopped, number, reading}
 use Rattle.lexer.specs.Quoted.{bytes}
 use Rattle.texts.specs.TextReading.{tokenInput, textReading}
-use Rattle.text_grammar.specs.TextMeaning.{TextDerived, TextAccepted, BadToken, FirstHigh, TextRefused, TextMeaning, TextWorth, TextTooLong}
+use Rattle.text_grammar.specs.TextMeaning.{TextDerived, TextAccepted, BadToken, FirstHigh, TextRefused, TextMeaning, TextTooLong}
 use Rattle.text_grammar.proofs.Theorem.{meaning, worth}
 use Rattle.text_grammar.proofs.Exactly.{forty, exactly}
 use Rattle.text_grammar.proofs.AsLent.{as-lent}

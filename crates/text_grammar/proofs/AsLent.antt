@@ -1,14 +1,12 @@
 -- Reading a text is reading the list of its tokens, where the lexer refuses none of them. Assumes nothing.
-use Prim.Native.Nat.{ℕ, zero, suc, _+_, _%_, _<_, _≤_}
+use Prim.Native.Nat.{ℕ, zero, suc, _+_, _%_, _<_}
 use native.Mathlib.Omega.{arith}
-use mathlib.Core.Path.{_≡_, refl, sym, ap, _∙_}
+use mathlib.Core.Path.{_≡_, sym, ap, _∙_}
 use mathlib.Core.List.{List}
 use lib.ListN.{length}
-use lib.Dec.{ltb, eqb}
 use borrow.Author.Tests.{le-ltb, eq-eqb}
-use Rattle.trees.specs.Choice.{choose}
 use Rattle.tokens.specs.declared.Token.{Token}
-use Rattle.tokens.specs.Lent.{goodToken, badFrom, firstBad}
+use Rattle.tokens.specs.Lent.{badFrom, firstBad}
 use Rattle.tokens.specs.Input.{Input, size}
 use Rattle.parser.specs.Defs.{parseDefs}
 use Rattle.parser.specs.Reading.{Reading, fitted, judged, reading}
@@ -16,7 +14,7 @@ use Rattle.grammar.specs.Meaning.{GoodAt, GoodList}
 use Rattle.lexer.specs.Text.{lexed, at-end}
 use Rattle.lexer.proofs.RunLaws.{stops-only, proper}
 use Rattle.texts.specs.TextReading.{tokenInput, lookedAhead, parseText, firstHigh, textReading}
-use Rattle.text_grammar.specs.TextMeaning.{Plain, Whole}
+use Rattle.text_grammar.specs.TextMeaning.{Whole}
 use Rattle.text_grammar.proofs.TokenLaws.{kinds}
 use Rattle.text_grammar.proofs.ByteLaws.{no-high-first}
 use Rattle.text_grammar.proofs.Theorem.{all-unlooked}

@@ -1,18 +1,18 @@
 -- EXACTLY: a text is accepted if and only if its trees are derived and fit; and what is accepted, opening takes. Assumes nothing.
-use Prim.Native.Nat.{ℕ, _*_, _/_, _<_, _≤_}
+use Prim.Native.Nat.{ℕ, _/_, _<_, _≤_}
 use native.Mathlib.Omega.{arith}
-use mathlib.Core.Path.{_≡_, refl, sym, ap, subst, _∙_}
+use mathlib.Core.Path.{_≡_, refl, ap, subst}
 use mathlib.Core.List.{List}
 use mathlib.Core.Logic.{_↔_}
 use mathlib.Core.Bool.{Bool, true, false}
 use lib.ListN.{length}
 use lib.Dec.{ltb}
 use borrow.Author.Tests.{ltb-true, ltb-false}
-use Rattle.trees.specs.Tree.{Trees, recordsAll}
+use Rattle.trees.specs.Tree.{Trees}
 use Rattle.records.specs.Result as result
 use Rattle.records.specs.Result.{refusalOf}
 use Rattle.tokens.specs.declared.Token.{Token}
-use Rattle.tokens.specs.Input.{Input, posAt}
+use Rattle.tokens.specs.Input.{posAt}
 use Rattle.parser.specs.Reading.{done, stopped, number, bytes}
 use Rattle.grammar.specs.Meaning.{GoodList, Derived}
 use Rattle.grammar.proofs.Theorem.{three}
@@ -22,7 +22,7 @@ use Rattle.closed.proofs.Theorem.{accepted-closed}
 use Rattle.lexer.proofs.RangeLaws.{refused-inside}
 use Rattle.lexer.proofs.RunLaws.{front, no-further, proper}
 use Rattle.texts.specs.TextReading.{tokenInput}
-use Rattle.text_grammar.specs.TextMeaning.{Plain, Begins, Whole, TextDerived, TextAccepted, FirstHigh, BadToken, TooMany, Underived, TextTooLong, TextRefused, too-long, not-ascii, too-many, bad-token, too-deep, no-parse, no-space, TextWorth, accepted, refused, TextClosed, TextFitting, TextExactly}
+use Rattle.text_grammar.specs.TextMeaning.{Plain, Begins, TextDerived, TextAccepted, FirstHigh, BadToken, TooMany, Underived, TextTooLong, TextRefused, too-long, not-ascii, too-many, bad-token, too-deep, no-parse, no-space, TextWorth, accepted, refused, TextClosed, TextFitting, TextExactly}
 use Rattle.text_grammar.proofs.TokenLaws.{size-tokens, good-tokens, lent-tokens}
 use Rattle.text_grammar.proofs.ByteLaws.{ascii-plain, no-high}
 use Rattle.text_grammar.proofs.Theorem.{derives-all, unique, refused-none}

@@ -11,8 +11,7 @@ use Rattle.trees.specs.Choice.{pick, choose}
 use Rattle.trees.specs.Tree.{Trees, recordsAll}
 use Rattle.tokens.specs.declared.Token.{Token}
 use Rattle.tokens.specs.Token.{isRefused, isTooMany}
-use Rattle.tokens.specs.Lent.{ascii}
-use Rattle.tokens.specs.Input.{Input, peek, posAt, size}
+use Rattle.tokens.specs.Input.{Input, peek, size}
 use Rattle.steps.specs.declared.Refusal.{Refusal}
 use Rattle.steps.specs.Outcome.{Outcome, accept, refuse, refusal}
 use Rattle.parser.specs.Defs.{parseDefs}
@@ -25,7 +24,6 @@ use Rattle.grammar.proofs.Lexemes.{there}
 use Rattle.grammar.proofs.TokenKinds.{tokens}
 use Rattle.grammar.proofs.Defs.{exact-defs}
 use Rattle.grammar.proofs.Theorem.{Parsed, parsed, parses, one-parse}
-use Rattle.lexer.specs.declared.Lexed.{Lexed}
 use Rattle.lexer.specs.declared.Lexed.the-variants.{Found, Refused, End}
 use Rattle.lexer.specs.Lexer.{token, nextToken}
 use Rattle.lexer.specs.Text.{lexed, Lexes, none, more, Stops, at-end, refused, too-many}

@@ -1,14 +1,12 @@
 -- One law for each way through reading a text. Assumes nothing.
-use Prim.Native.Nat.{ℕ, zero, suc, _+_, _*_, _/_, _<_, _≤_}
+use Prim.Native.Nat.{ℕ, suc, _+_, _*_, _/_, _<_, _≤_}
 use native.Mathlib.Omega.{arith}
 use mathlib.Core.Path.{_≡_, refl, sym, ap, _∙_}
-use mathlib.Core.List.{List, [], _∷_, _++_}
+use mathlib.Core.List.{List, [], _∷_}
 use mathlib.Core.Bool.{Bool, true, false, false≢true}
 use lib.ListN.{length, getD, take, replicate, length-replicate, length-append}
 use lib.Seq.{take-all, length-take-le}
-use lib.Dec.{ltb, leb, eqb}
-use types.Run.{OneOf}
-use denote.Enum.Declared.{tagOf}
+use lib.Dec.{ltb, leb}
 use mir.Syntax.{w64}
 use mir.Val.{Fits}
 use borrow.Author.Tests.{leb-true, leb-false, lt-ltb, le-ltb, eq-eqb, ne-eqb}
@@ -26,7 +24,7 @@ use Rattle.steps.specs.declared.Parsed.the-variants.{Accepted, Refused}
 use Rattle.steps.specs.Outcome.{Outcome, accept, refuse, refusal}
 use Rattle.steps.specs.Met.{Met, Chained}
 use Rattle.parser.specs.Defs.{parseDefs}
-use Rattle.parser.specs.Reading.{Reading, stopped, fitted}
+use Rattle.parser.specs.Reading.{stopped, fitted}
 use Rattle.reading.specs.Answered.{Answered, Finished, Countable}
 use Rattle.reading.proofs.ReadLaws.{met-finished, good-countable}
 use Rattle.lexer.specs.Lexer.{token, runEnd}
@@ -34,7 +32,7 @@ use Rattle.lexer.specs.Gaps.{RunTo}
 use Rattle.lexer.specs.Text.{lexed, Stops, at-end, refused, too-many, recordsOf, Wrote}
 use Rattle.lexer.proofs.GapLaws.{Run, run-on, run-stop}
 use Rattle.lexer.proofs.RunLaws.{stops, length-lexed}
-use Rattle.texts.specs.TextReading.{tokenBytes, tokenInput, foremost, lookedAhead, parseText, isAscii, textReading}
+use Rattle.texts.specs.TextReading.{tokenBytes, foremost, lookedAhead, parseText, isAscii, textReading}
 use Rattle.texts.specs.Looked.{looked}
 
 -- ---- bytes above 127
