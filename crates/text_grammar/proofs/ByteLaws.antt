@@ -41,7 +41,7 @@ low-at (c ∷ cs) i k h = go k (ltb c 128) refl h (λ n l. low-at cs (i + 1) n l
 pub first-high : (text : List ℕ) → length text ≤ 65536 → firstHigh text < length text → FirstHigh text (firstHigh text)
 first-high text b h =
     let z : runEnd isAscii text 0 - 0 ≡ runEnd isAscii text 0 = omega arith in
-    record { short = b; there = h; high = rw z at (high-at text 0 (omega arith)); low-before = λ i l. low-at text 0 i (omega arith) }
+    record { short = b; there = h; high = omega (arith, rw z at (high-at text 0 (omega arith))); low-before = λ i l. low-at text 0 i (omega arith) }
 
 pub plain-text : (text : List ℕ) → length text ≤ 65536 → length text ≤ firstHigh text → Plain text
 plain-text text b h = record { short = b; low = λ i l. low-at text 0 i (omega arith) }

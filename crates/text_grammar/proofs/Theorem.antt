@@ -100,7 +100,7 @@ module _ (text : List ℕ) (space : ℕ) where
   -- a refusal of the parser, by its ground
   by-ground : {ts : List Token} {e : Refusal} → Underived text ts → Ground (tokenInput text ts) (Deep (tokenInput text ts) (list definition) 64 0) e → TextRefused text space (e .code) (e .place)
   by-ground u (deep k x c p) = rw (c, p) (m.too-deep u x)
-  by-ground u (plain k l h n p) = rw p (m.no-parse k u l h)
+  by-ground u (plain k l h n p) = rw p (m.no-parse k u l (omega (arith, h)))
 
   -- ---- all of the text is tokens
 
