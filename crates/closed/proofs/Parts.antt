@@ -1,5 +1,5 @@
--- Every part of the grammar has trees of the sort that stands for it, with no MacroArg among them and all fields within their widths:
--- by induction on its derivation. Assumes nothing.
+-- Every part of the grammar has trees of the sort that stands for it, with no MacroArg and no empty name among them and all fields within
+-- their widths: by induction on its derivation. Assumes nothing.
 use Prim.Native.Nat.{ℕ, _+_, _*_, _/_, _%_, _≤_, _<_}
 use native.Mathlib.Omega.{arith}
 use native.Mathlib.Numerals.{add-one}
@@ -9,6 +9,7 @@ use lib.ListN.{length}
 use borrow.Author.Tests.{le-leb, lt-ltb, eq-eqb}
 use Rattle.trees.specs.Tree.{Tree, Trees, ∅, _▸_, _⧺_, head}
 use Rattle.trees.specs.Ast as ast
+use Rattle.trees.specs.Names.{Nonempty}
 use Rattle.tokens.specs.Input.{Input, peek, posAt, size}
 use Rattle.grammar.specs.Lexical.{Name, Constant, nameAt, constantAt, typeAt, treeAt}
 use Rattle.grammar.specs.Grammar.{Optional, given, left, Modifiers, no-more, an-extern, a-nodebug, RuleName, named, unnamed, RulePriority, ranked, unranked, Part, definition, typedef, typevalue, variant, fields, field, decl, attr, attribute, extern, extractor, rule, iflet, converter, pattern, expression, letdef, name, types, list, Gram, empty, cons, d-type, d-decl, d-attr, d-extern, d-extractor, d-rule, d-convert, t-type, v-primitive, v-enum, v-struct, w-plain, w-fields, f-unit, f-struct, f-tuple, f-field, f-end, f-type, c-decl, n-name, a-attr, a-chain, a-priority, a-tag, x-constructor, x-extractor, x-const, x-template, r-rule, i-let, i-if, k-convert, p-integer, p-constant, p-wildcard, p-true, p-false, p-var, p-bind, p-and, p-term, e-integer, e-constant, e-true, e-false, e-var, e-let, e-term, l-def}
@@ -21,7 +22,7 @@ use Rattle.forms.specs.Forms.{placed, one, leading, positionOk, wordsOk}
 use Rattle.closed.proofs.Rows as made
 use Rattle.closed.proofs.Rows.{Narrow, Fits, Row, end, next, Several, Run, stop, step, row-then, one-more, several-more, in-place, headed, fits-fixed, fits-spread, fits-last}
 use Rattle.closed.proofs.Lent.{Lent}
-use Rattle.closed.proofs.Symbols.{Inside, inside, cut-inside}
+use Rattle.closed.proofs.Symbols.{Inside, inside, name-nonempty, cut-nonempty, cut-inside}
 use Rattle.closed.proofs.Widths.{low-range, at, bare, both-words}
 
 -- ---- what trees a part has
@@ -83,17 +84,17 @@ more-listed s unsaid i j xs ys p q = tt
 -- ---- names, types, flags
 
 module _ {s : Input} (g : GoodList s) where
-  ident : (i a : ℕ) → Inside (length (s .text)) a → Fits s kinds.name (ast.Ident (posAt s i) a)
+  ident : (i a : ℕ) → Inside (length (s .text)) a → Nonempty a → Fits s kinds.name (ast.Ident (posAt s i) a)
   unfolding headed rowFor find rows placed positionOk wordsOk leading one _and_
-  ident i a h =
+  ident i a h n =
       fits-fixed {h = head 24 0 (posAt s i) a 0} (λ l. record { pos = at s i {k = 24} {f = 0} l .pos; word1 = low-range (length (s .text)) a (g .limited .short) h; word2 = omega arith })
-      (rw (le-leb (a / 4294967296 + a % 4294967296) (length (s .text)) h)) (omega arith) refl end
+      (rw (le-leb (a / 4294967296 + a % 4294967296) (length (s .text)) h, lt-ltb 0 (a % 4294967296) n)) (omega arith) refl end
 
   named-fits : {i : ℕ} → Name s i → Fits s kinds.name (nameAt s i)
-  named-fits {i} h = ident i _ (inside g (h .symbol))
+  named-fits {i} h = ident i _ (inside g (h .symbol)) (name-nonempty (s .text) _ (h .obeys))
 
   constant-fits : {i : ℕ} → Constant s i → Fits s kinds.name (constantAt s i)
-  constant-fits {i} h = ident i _ (cut-inside (s .text) (peek s i .word1) (h .named .obeys) (inside g (h .named .symbol)))
+  constant-fits {i} h = ident i _ (cut-inside (s .text) (peek s i .word1) (h .longer) (inside g (h .named .symbol))) (cut-nonempty (s .text) (peek s i .word1) (h .longer))
 
   type-fits : {i : ℕ} (n : ℕ) → n ≤ i → Name s i → Fits s (placed kinds.tuple-field n) (typeAt s i n)
   unfolding headed rowFor find rows placed positionOk wordsOk leading one _and_

@@ -1,15 +1,17 @@
--- Trees that are of their sorts, hold no MacroArg and fit the widths of the fields, one by one and in rows; and how a node is made of its
--- children. Assumes nothing.
-use Prim.Native.Nat.{ℕ, suc, _+_, _-_, _≤_, _<_}
+-- Trees that are of their sorts, hold no MacroArg and no empty name and fit the widths of the fields, one by one and in rows; and how a node
+-- is made of its children. Assumes nothing.
+use Prim.Native.Nat.{ℕ, suc, _+_, _-_, _%_, _≤_, _<_}
 use native.Mathlib.Omega.{arith}
 use mathlib.Core.Path.{_≡_, refl, ap, sym, _∙_}
 use mathlib.Core.Bool.{Bool, true, false}
 use mathlib.Core.List.{List, [], _∷_, _++_}
 use lib.ListN.{length, length-append}
 use lib.Dec.{eqb, ltb, leb}
-use borrow.Author.Tests.{lt-ltb, le-leb, ltb-true, leb-true}
+use borrow.Author.Tests.{lt-ltb, le-leb, ltb-true, leb-true, eqb-false}
 use Rattle.trees.specs.declared.Head.{Head}
 use Rattle.trees.specs.Choice.{pick}
+use Rattle.trees.specs.Ast.{Identifier}
+use Rattle.trees.specs.Names.{Nonempty}
 use Rattle.trees.specs.Tree.{Tree, Trees, node, ∅, _▸_, _⧺_, count, recordOf}
 use Rattle.trees.proofs.Laws.{⧺-none, count-⧺}
 use Rattle.tokens.specs.Input.{Input}
@@ -30,9 +32,10 @@ pub record Narrow (h : Head) : Type 0 where
   pub word1 : h .word1 < 18446744073709551616
   pub word2 : h .word2 < 18446744073709551616
 
--- no MacroArg, and what it holds has the widths of its fields
+-- no MacroArg, no Ident without a name, and what it holds has the widths of its fields
 pub record Plain (s : Input) (h : Head) : Type 0 where
   pub no-arg : eqb (h .kind) MacroArg ≡ false
+  pub named : h .kind ≡ Identifier → Nonempty (h .word1)
   pub kind : h .kind < 256
   pub flags : h .flags < 256
   pub narrow : Lent s → Narrow h
@@ -151,11 +154,16 @@ unfoldable pub headed : ℕ → ℕ → Head → Bool
 headed t k h =
     ltb 0 k and (eqb k (placed (rowFor (h .kind) (h .flags) .sort) (h .word1)) and (positionOk (rowFor (h .kind) (h .flags) .position) (h .pos)
     and (wordsOk t (rowFor (h .kind) (h .flags) .words) (h .word1) (h .word2)
-    and (pick (eqb (h .kind) MacroArg) false true and (ltb (h .kind) 256 and leb (rowFor (h .kind) (h .flags) .flags) 256)))))
+    and (pick (eqb (h .kind) MacroArg) false true and (pick (eqb (h .kind) Identifier) (ltb 0 (h .word1 % 4294967296)) true
+    and (ltb (h .kind) 256 and leb (rowFor (h .kind) (h .flags) .flags) 256))))))
 
 no-arg : (b : Bool) → pick b false true ≡ true → b ≡ false
 no-arg true e = sym e
 no-arg false e = refl
+
+name-of : (k a : ℕ) (b : Bool) → eqb k Identifier ≡ b → pick b (ltb 0 (a % 4294967296)) true ≡ true → k ≡ Identifier → Nonempty a
+name-of k a true p e z = ltb-true 0 _ e
+name-of k a false p e z = absurd (eqb-false k Identifier p z)
 
 module _ (s : Input) (k : ℕ) (h : Head) (n : Lent s → Narrow h) (e : headed (length (s .text)) k h ≡ true) (f : h .flags < rowFor (h .kind) (h .flags) .flags) where
   stand : (xs : Trees) → Children s (rowFor (h .kind) (h .flags)) xs → stands (length (s .text)) k (rowFor (h .kind) (h .flags)) (recordOf h (count xs)) ≡ true
@@ -171,8 +179,9 @@ module _ (s : Input) (k : ℕ) (h : Head) (n : Lent s → Narrow h) (e : headed 
   unfolding headed
   head-plain =
       let p = both (both (both (both (both e .1) .1) .1) .1) in
-      let q = both (p .1) in
-      record { no-arg = no-arg (eqb (h .kind) MacroArg) (p .0); kind = ltb-true (h .kind) 256 (q .0); flags = omega (arith, leb-true (rowFor (h .kind) (h .flags) .flags) 256 (q .1)); narrow = n }
+      let m = both (p .1) in
+      let q = both (m .1) in
+      record { no-arg = no-arg (eqb (h .kind) MacroArg) (p .0); named = name-of (h .kind) (h .word1) (eqb (h .kind) Identifier) refl (m .0); kind = ltb-true (h .kind) 256 (q .0); flags = omega (arith, leb-true (rowFor (h .kind) (h .flags) .flags) 256 (q .1)); narrow = n }
 
   fits : {xs : Trees} → Children s (rowFor (h .kind) (h .flags)) xs → Fits s k (node h xs)
   unfolding ofSort

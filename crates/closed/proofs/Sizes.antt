@@ -1,4 +1,4 @@
--- Records of plain trees have the widths of their fields, so they are read back from their bytes. Assumes nothing.
+-- Records of plain trees have the widths of their fields, so they are read back from their bytes; and no empty name. Assumes nothing.
 use Prim.Native.Nat.{ℕ, _*_, _/_, _%_, _≤_}
 use native.Mathlib.Omega.{arith}
 use mathlib.Core.Path.{_≡_, refl, ap, sym, _∙_}
@@ -10,6 +10,7 @@ use Rattle.trees.proofs.Laws.{count-size}
 use Rattle.records.specs.Slots.{slots, recsFrom, recs, writes}
 use Rattle.records.proofs.BackLaws.{AllSized, bytesAll, length-bytesAll, writes-front, recsFrom-back}
 use Rattle.tokens.specs.Input.{Input}
+use Rattle.closed.specs.Closed.{Named}
 use Rattle.closed.proofs.Lent.{Lent}
 use Rattle.closed.proofs.Rows.{PlainTree, plain, PlainTrees, no-tree, and-tree}
 
@@ -30,6 +31,20 @@ mutual
   sized-trees (and-tree {x = x} {xs = xs} p q) l b =
       let e = length-append (records x) (recordsAll xs) in
       sized-append (records x) (recordsAll xs) (sized-tree p l (omega arith)) (sized-trees q l (omega arith))
+
+named-append : (rs us : List Rec) → Named rs → Named us → Named (rs ++ us)
+named-append [] us p q = q
+named-append (r ∷ rs) us p q = (p .0, named-append rs us (p .1) q)
+
+mutual
+  unfolding records
+
+  named-tree : {s : Input} {x : Tree} → PlainTree s x → Named (records x)
+  named-tree (plain p q) = (λ e. omega (arith, p .named e), named-trees q)
+
+  pub named-trees : {s : Input} {xs : Trees} → PlainTrees s xs → Named (recordsAll xs)
+  named-trees no-tree = tt
+  named-trees (and-tree {x = x} {xs = xs} p q) = named-append (records x) (recordsAll xs) (named-tree p) (named-trees q)
 
 -- the bytes of records alone, read as records
 recs-bytes : (rs : List Rec) → AllSized rs → recs (bytesAll rs) ≡ rs

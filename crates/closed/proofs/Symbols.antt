@@ -1,13 +1,14 @@
--- A good token's symbol lies in the text, and so does what is left of a constant without its `$`. Assumes nothing.
+-- A good token's symbol lies in the text, and so does what is left of a constant without its `$`. Neither is empty. Assumes nothing.
 use Prim.Native.Nat.{ℕ, _+_, _/_, _%_, _≤_, _<_}
 use native.Mathlib.Omega.{arith}
 use mathlib.Core.Path.{_≡_}
 use mathlib.Core.Bool.{true}
 use mathlib.Core.List.{List}
-use lib.ListN.{length, length-take}
+use lib.ListN.{length}
 use lib.Dec.{eqb, ltb}
 use borrow.Author.Tests.{lt-ltb, ltb-false}
-use Rattle.trees.specs.Names.{spelled}
+use Rattle.trees.specs.Names.{spelled, Nonempty}
+use Rattle.trees.proofs.Laws.{spelled-within}
 use Rattle.tokens.specs.Token.{tokenAt}
 use Rattle.tokens.specs.Lent.{goodSymbol, goodValue, goodWords, goodToken}
 use Rattle.tokens.specs.Input.{Input, peek, size}
@@ -42,16 +43,18 @@ inside {s} {i} g h =
     let e = lt-ltb i (size s) l in
     rw e (words-inside (s .text) (s .end) _ _ _ (rw e at (h .is)) (g .good i l))
 
--- ---- constants
+-- ---- names
 
 not-empty : {b : List ℕ} → Identifier b → 0 < length b
 not-empty (identifier p q) = omega arith
 
-identifier-length : (text : List ℕ) (a : ℕ) → Identifier (spelled text a) → 0 < a % 4294967296
-unfolding spelled
-identifier-length text a d = omega (arith, simp length-take at (not-empty d))
+pub name-nonempty : (text : List ℕ) (a : ℕ) → Identifier (spelled text a) → Nonempty a
+name-nonempty text a d = omega (arith, not-empty d, spelled-within text a)
 
-pub cut-inside : (text : List ℕ) (a : ℕ) → Identifier (spelled text a) → Inside (length text) a → Inside (length text) (a + 4294967295)
-cut-inside text a d h =
-    let l = identifier-length text a d in
-    omega arith
+-- what a constant's own terminal says of its bytes
+module _ (text : List ℕ) (a : ℕ) (l : 1 < length (spelled text a)) where
+  pub cut-nonempty : Nonempty (a + 4294967295)
+  cut-nonempty = omega (arith, l, spelled-within text a)
+
+  pub cut-inside : Inside (length text) a → Inside (length text) (a + 4294967295)
+  cut-inside h = omega (arith, l, h, spelled-within text a)

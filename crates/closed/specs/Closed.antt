@@ -1,12 +1,15 @@
 -- What reading writes, opening takes (document 01): as a definition list, the records give no ground for the refusals 7, 3, 4 and 8,
 -- and their bytes none for 1. What opening may still refuse is what the extractors say to each other (30 to 33), or space (6).
+-- And no name of it is empty, a constant's without its `$` included (document 02, note 7).
 use Prim.Native.Nat.{ℕ, _*_, _%_, _≤_}
 use mathlib.Core.Path.{_≡_}
 use mathlib.Core.Bool.{true}
-use mathlib.Core.List.{List}
+use mathlib.Core.List.{List, [], _∷_}
 use lib.ListN.{length, take}
 use Rattle.trees.specs.declared.Rec.{Rec}
 use Rattle.trees.specs.Tree.{Trees, recordsAll}
+use Rattle.trees.specs.Ast.{Identifier}
+use Rattle.trees.specs.Names.{Nonempty}
 use Rattle.records.specs.Slots.{recs}
 use Rattle.records.specs.Result.{countOf}
 use Rattle.tokens.specs.Input.{Input}
@@ -27,15 +30,21 @@ pub record Taken (t : ℕ) (rs : List Rec) : Type 0 where
   pub no-arg : firstMacroArg rs ≡ length rs
   pub shallow : firstDeepIn rs ≡ length rs
 
+-- every Ident among the records has a name of at least one byte
+abbrev pub Named : List Rec → Type 0
+Named [] = Unit {0}
+Named (r ∷ rs) = (r .kind ≡ Identifier → Nonempty (r .word1)) × Named rs
+
 -- the part of an output l that is lent on: as many records as the returned number r counts
 abbrev pub kept : ℕ → List ℕ → List ℕ
 kept r l = take (countOf r * 24) l
 
--- reading accepted, returned r and left l: the bytes lent on are whole records, those of the trees that the grammar derives, and a list
--- that opening takes
+-- reading accepted, returned r and left l: the bytes lent on are whole records, those of the trees that the grammar derives, a list that
+-- opening takes, and names that are not empty
 pub record Closed (s : Input) (r : ℕ) (l : List ℕ) : Type 0 where
   pub trees : Trees
   pub derived : Derived s trees
   pub whole : length (kept r l) % 24 ≡ 0
   pub back : recs (kept r l) ≡ recordsAll trees
   pub taken : Taken (length (s .text)) (recs (kept r l))
+  pub named : Named (recs (kept r l))

@@ -2,7 +2,7 @@
 use Prim.Native.Nat.{ℕ, _+_, _*_}
 use mathlib.Core.List.{List, [], _∷_, _++_}
 use Rattle.trees.specs.Tree.{Tree, Trees, node, ∅, _▸_, head}
-use Rattle.trees.specs.Ast.{IfLet, Pattern·Var, Pattern·Bind, Pattern·ConstBool, Pattern·ConstInt, Pattern·ConstPrim, Pattern·Term, Pattern·Wildcard, Pattern·And, Expr·Term, Expr·Var, Expr·ConstInt, Expr·Let, LetDef, Ident}
+use Rattle.trees.specs.Ast.{IfLet, Pattern·Var, Pattern·Bind, Pattern·ConstBool, Pattern·ConstInt, Pattern·ConstPrim, Pattern·Term, Pattern·Wildcard, Pattern·And, Expr·Term, Expr·Var, Expr·ConstInt, Expr·ConstPrim, Expr·Let, LetDef, Ident}
 use Rattle.words.specs.Words.{be8}
 use Rattle.tokens.specs.Input.{Input, input}
 use Rattle.steps.specs.Outcome.{Outcome, accept, refuse, refusal, Reader}
@@ -56,8 +56,16 @@ unfoldable pub table : List Case
 table =
     -- `5`
     (case pattern (tok 4 0 0 5) (53 ∷ []) 1 (accept (one (node (head Pattern·ConstInt 0 0 0 5) ∅)) 1))
-    -- `$`
-    ∷ (case pattern (sym 0 1) (36 ∷ []) 1 (accept (one (node (head Pattern·ConstPrim 0 0 0 0) (one (Ident 0 4294967296)))) 1))
+    -- `$a`
+    ∷ (case pattern (sym 0 2) (36 ∷ 97 ∷ []) 2 (accept (one (node (head Pattern·ConstPrim 0 0 0 0) (one (Ident 0 4294967297)))) 1))
+    -- `$$`
+    ∷ (case pattern (sym 0 2) (36 ∷ 36 ∷ []) 2 (accept (one (node (head Pattern·ConstPrim 0 0 0 0) (one (Ident 0 4294967297)))) 1))
+    -- `$` alone is no constant; it is consumed before that is seen
+    ∷ (case pattern (sym 0 1) (36 ∷ []) 1 (refuse (refusal 16 0 1)))
+    -- `$-`
+    ∷ (case pattern (sym 0 2) (36 ∷ 45 ∷ []) 2 (refuse (refusal 15 0 1)))
+    -- `($ x)`: as a term's name it may stand alone
+    ∷ (case pattern (tok 1 0 0 0 ++ sym 1 1 ++ sym 3 1 ++ tok 2 4 0 0) (40 ∷ 36 ∷ 32 ∷ 120 ∷ 41 ∷ []) 5 (accept (one (node (head Pattern·Term 0 0 0 0) (id 1 1 ▸ one (node (head Pattern·Var 0 3 0 0) (one (id 3 1)))))) 4))
     -- `x @ (and y true)`
     ∷ (case pattern (sym 0 1 ++ tok 5 2 0 0 ++ tok 1 4 0 0 ++ sym 5 3 ++ sym 9 1 ++ sym 11 4 ++ tok 2 15 0 0) (120 ∷ 32 ∷ 64 ∷ 32 ∷ 40 ∷ 97 ∷ 110 ∷ 100 ∷ 32 ∷ 121 ∷ 32 ∷ 116 ∷ 114 ∷ 117 ∷ 101 ∷ 41 ∷ []) 16 (accept (one (node (head Pattern·Bind 0 0 0 0) (id 0 1 ▸ one (node (head Pattern·And 0 4 0 0) ((node (head Pattern·Var 0 9 0 0) (one (id 9 1))) ▸ one (node (head Pattern·ConstBool 1 11 0 0) ∅)))))) 7))
     -- `(true _ false)`
@@ -74,6 +82,12 @@ table =
     ∷ (case shallow (sym 0 1) (120 ∷ []) 1 (accept (one (node (head Pattern·Var 0 0 0 0) (one (id 0 1)))) 1))
     -- `_`
     ∷ (case expr (sym 0 1) (95 ∷ []) 1 (accept (one (node (head Expr·Var 0 0 0 0) (one (id 0 1)))) 1))
+    -- `$a`
+    ∷ (case expr (sym 0 2) (36 ∷ 97 ∷ []) 2 (accept (one (node (head Expr·ConstPrim 0 0 0 0) (one (Ident 0 4294967297)))) 1))
+    -- `$` alone is no constant
+    ∷ (case expr (sym 0 1) (36 ∷ []) 1 (refuse (refusal 16 0 1)))
+    -- `($ x)`
+    ∷ (case expr (tok 1 0 0 0 ++ sym 1 1 ++ sym 3 1 ++ tok 2 4 0 0) (40 ∷ 36 ∷ 32 ∷ 120 ∷ 41 ∷ []) 5 (accept (one (node (head Expr·Term 0 0 0 0) (id 1 1 ▸ one (node (head Expr·Var 0 3 0 0) (one (id 3 1)))))) 4))
     -- `(let ((x T 5)) x)`
     ∷ (case expr (tok 1 0 0 0 ++ sym 1 3 ++ tok 1 5 0 0 ++ tok 1 6 0 0 ++ sym 7 1 ++ sym 9 1 ++ tok 4 11 0 5 ++ tok 2 12 0 0 ++ tok 2 13 0 0 ++ sym 15 1 ++ tok 2 16 0 0) (40 ∷ 108 ∷ 101 ∷ 116 ∷ 32 ∷ 40 ∷ 40 ∷ 120 ∷ 32 ∷ 84 ∷ 32 ∷ 53 ∷ 41 ∷ 41 ∷ 32 ∷ 120 ∷ 41 ∷ []) 17 (accept (one (node (head Expr·Let 0 0 0 0) ((node (head LetDef 0 6 0 0) (id 7 1 ▸ id 9 1 ▸ one (node (head Expr·ConstInt 0 11 0 5) ∅))) ▸ one (node (head Expr·Var 0 15 0 0) (one (id 15 1)))))) 11))
     -- `(let ((x T)) x)`

@@ -72,7 +72,7 @@ module _ (s : Input) (d : ℕ) (ih : Exact s (Nested s expression d) (parseExpr 
   there (fails a (fails b (holds h (token _)))) = record { derives = e-true h; shallow = omega arith }
   there (fails a (fails b (fails c (holds h (token _))))) = record { derives = e-false h; shallow = omega arith }
   there (fails a (fails b (fails c (fails e (holds k (over (token h))))))) =
-      record { derives = e-var (record { named = h; no-constant = b; no-true = c; no-false = e }); shallow = omega arith }
+      record { derives = e-var (record { named = h; no-dollar = b; no-true = c; no-false = e }); shallow = omega arith }
   there (fails a (fails b (fails c (fails e (fails f (holds h (token _))))))) = record { derives = e-integer h; shallow = omega arith }
 
   back : {i j : ℕ} {ts : Trees} → Gram s expression i j ts → deepest ts ≤ suc d → shape .reads .Means i ts j
@@ -83,7 +83,7 @@ module _ (s : Input) (d : ℕ) (ih : Exact s (Nested s expression d) (parseExpr 
   back (e-true h) m = fails (λ z. other z (h .symbol) refl) (fails (λ z. omega (arith, no-dollar-word h z)) (holds h (token tt)))
   back (e-false h) m = fails (λ z. other z (h .symbol) refl) (fails (λ z. omega (arith, no-dollar-word h z)) (fails (λ z. one-word h z refl) (holds h (token tt))))
   back (e-var h) m =
-      fails (λ z. other z (h .named .symbol) refl) (fails (h .no-constant) (fails (h .no-true) (fails (h .no-false) (holds (h .named .symbol) (over (token (h .named)))))))
+      fails (λ z. other z (h .named .symbol) refl) (fails (h .no-dollar) (fails (h .no-true) (fails (h .no-false) (holds (h .named .symbol) (over (token (h .named)))))))
   back (e-let {ts = ts} {e = u} o w p ds c e q) m =
       let y = deepest-⧺ ts u in
       holds o (holds w (over (then (token o) (up (then (up (then (up (token w) p) (record { derives = ds; shallow = omega arith; shuts = c })) c) (record { derives = e; shallow = omega arith })) q))))

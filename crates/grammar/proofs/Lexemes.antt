@@ -3,9 +3,9 @@ use Prim.Native.Nat.{ℕ, _+_, _<_, _≤_}
 use native.Mathlib.Omega.{arith}
 use mathlib.Core.Path.{_≡_, refl, sym, ap, _∙_}
 use mathlib.Core.List.{List, [], _∷_}
-use mathlib.Core.Bool.{Bool, true, false}
-use lib.ListN.{getD}
-use lib.Dec.{eqb}
+use mathlib.Core.Bool.{Bool, true, false, _&&_}
+use lib.ListN.{length, getD}
+use lib.Dec.{eqb, ltb}
 use borrow.Author.Tests.{eqb-true, eqb-false, eq-eqb}
 use Rattle.trees.specs.Choice.{pick, choose}
 use Rattle.trees.specs.Tree.{Trees, ∅}
@@ -18,6 +18,7 @@ use Rattle.tokens.specs.Input.{Input, peek, posAt, size}
 use Rattle.tokens.proofs.TokenLaws.{kind-inside}
 use Rattle.steps.specs.declared.Refusal.{Refusal}
 use Rattle.steps.specs.Outcome.{accept, refuse, refusal, unexpected, expect-lparen, expect-rparen, expect-at, expect-word, identAt, nameBy, parseIdent, constRefusal, parseConst, refusedAs}
+use Rattle.steps.proofs.ConstLaws.{is-constant, constant-is}
 use Rattle.grammar.specs.Lexical.{Kind, Open, Close, Symbol, Integer, At, Word, spelling, Identifier, identifier, Name, Dollar, Constant, one, nameAt, constantAt}
 use Rattle.grammar.proofs.Exact.{Reach, Exact, Tests, Judges, One, token, exact-expect, clash, same, Ground, plain, no-refusal, same-ground, unexpected-ground}
 
@@ -196,15 +197,6 @@ pub ident : (s : Input) {D : Reach} → Exact s D (parseIdent s) (One (Name s) (
 unfolding parseIdent
 ident s = exact-name (λ w. w) (ident-names s)
 
-const-zero : (b : List ℕ) → constRefusal b ≡ 0 → (identRefusal b ≡ 0) × (getD b 0 0 ≡ 36)
-unfolding constRefusal
-const-zero b e = go (eqb (identRefusal b) 0) (eqb (getD b 0 0) 36) refl refl e
-  where
-    go : (t u : Bool) → eqb (identRefusal b) 0 ≡ t → eqb (getD b 0 0) 36 ≡ u → pick t (pick u 0 16) (identRefusal b) ≡ 0 → (identRefusal b ≡ 0) × (getD b 0 0 ≡ 36)
-    go true true p q h = (eqb-true _ 0 p, eqb-true _ 36 q)
-    go true false p q h = absurd (omega arith)
-    go false u p q h = absurd (eqb-false _ 0 p h)
-
 sixteen : (u : Bool) → (_≡_ {A = ℕ} (pick u 0 16) 0 → ⊥) → (10 ≤ pick u 0 16) × (pick u 0 16 ≤ 27)
 sixteen true n = absurd (n refl)
 sixteen false n = (omega arith, omega arith)
@@ -213,10 +205,10 @@ const-names : (s : Input) → Names s constRefusal (Constant s)
 unfolding constRefusal
 const-names s =
     record {
-      yes = λ i k e. let z = const-zero (spelling s i) e in record { named = record { symbol = k; obeys = rule-sound (spelling s i) (z .0) }; dollar = record { symbol = k; starts-so = z .1 } };
+      yes = λ i k e. let z = is-constant (spelling s i) e in record { named = record { symbol = k; obeys = rule-sound (spelling s i) (z .identifier) }; dollar = record { symbol = k; starts-so = z .dollar }; longer = omega (arith, z .longer) };
       symbol = λ i h. h .named .symbol;
-      obeys = λ i h. rw (rule-complete (h .named .obeys), h .dollar .starts-so);
-      ground = λ b n. either-ground b (pick (eqb (getD b 0 0) 36) 0 16) (identRefusal b) (sixteen (eqb (getD b 0 0) 36)) (ident-within b) n;
+      obeys = λ i h. constant-is (spelling s i) (record { identifier = rule-complete (h .named .obeys); dollar = h .dollar .starts-so; longer = omega (arith, h .longer) });
+      ground = λ b n. either-ground b (pick (eqb (getD b 0 0) 36 && ltb 1 (length b)) 0 16) (identRefusal b) (sixteen (eqb (getD b 0 0) 36 && ltb 1 (length b))) (ident-within b) n;
     }
 
 pub constant : (s : Input) {D : Reach} → Exact s D (parseConst s) (One (Constant s) (λ i. one (constantAt s i)))

@@ -92,12 +92,12 @@ module _ (s : Input) (d : ℕ) (ih : Exact s (Nested s pattern d) (parsePattern 
   there (fails a (fails b (fails c (fails e (holds h (token _)))))) = record { derives = p-false h; shallow = omega arith; stops = shut }
   there (fails a (fails b (fails c (fails e (fails f (holds k (holds t (over (then (up (token h) u) r))))))))) =
       record {
-        derives = p-bind (record { variable = record { named = h; no-constant = b; no-true = e; no-false = f }; no-wildcard = c }) u (r .derives);
+        derives = p-bind (record { variable = record { named = h; no-dollar = b; no-true = e; no-false = f }; no-wildcard = c }) u (r .derives);
         shallow = omega (arith, r .shallow);
         stops = λ z. r .stops (last-open z);
       }
   there (fails a (fails b (fails c (fails e (fails f (holds k (fails n (over (token h))))))))) =
-      record { derives = p-var (record { variable = record { named = h; no-constant = b; no-true = e; no-false = f }; no-wildcard = c }); shallow = omega arith; stops = λ _. n }
+      record { derives = p-var (record { variable = record { named = h; no-dollar = b; no-true = e; no-false = f }; no-wildcard = c }); shallow = omega arith; stops = λ _. n }
   there (fails a (fails b (fails c (fails e (fails f (fails g (holds k (holds t (over (up (then (up (token o) w) r) z)))))))))) =
       record { derives = p-and o w (r .derives) z; shallow = omega (arith, r .shallow); stops = shut }
   there (fails a (fails b (fails c (fails e (fails f (fails g (holds k (fails n (over (up (then (then (token o) (token h)) r) z)))))))))) =
@@ -113,11 +113,11 @@ module _ (s : Input) (d : ℕ) (ih : Exact s (Nested s pattern d) (parsePattern 
       fails (λ z. other z (h .symbol) refl) (fails (λ z. omega (arith, no-dollar-word h z)) (fails (λ z. one-word h z refl) (fails (λ z. one-word h z refl) (holds h (token tt)))))
   back (p-var h) m e =
       let v = h .variable in
-      fails (λ z. other z (v .named .symbol) refl) (fails (v .no-constant) (fails (h .no-wildcard) (fails (v .no-true) (fails (v .no-false)
+      fails (λ z. other z (v .named .symbol) refl) (fails (v .no-dollar) (fails (h .no-wildcard) (fails (v .no-true) (fails (v .no-false)
       (holds (v .named .symbol) (fails (e refl) (over (token (v .named)))))))))
   back (p-bind h a p) m e =
       let v = h .variable in
-      fails (λ z. other z (v .named .symbol) refl) (fails (v .no-constant) (fails (h .no-wildcard) (fails (v .no-true) (fails (v .no-false)
+      fails (λ z. other z (v .named .symbol) refl) (fails (v .no-dollar) (fails (h .no-wildcard) (fails (v .no-true) (fails (v .no-false)
       (holds (v .named .symbol) (holds a (over (then (up (token (v .named)) a) (record { derives = p; shallow = omega arith; stops = λ o. e (rw o) })))))))))
   back (p-and o w ps c) m e =
       fails (λ z. other o z refl) (fails (λ z. other o (z .symbol) refl) (fails (λ z. other o (z .symbol) refl) (fails (λ z. other o (z .symbol) refl) (fails (λ z. other o (z .symbol) refl)
@@ -129,7 +129,7 @@ module _ (s : Input) (d : ℕ) (ih : Exact s (Nested s pattern d) (parsePattern 
   inside : {i k : ℕ} → shape .Reaches i k → Nested s pattern (suc d) i k
   unfolding patternIn compound
   inside (if-not a (if-not b (if-not c (if-not e (if-not f (if-so k (if-so t (after (up (token h) u) n)))))))) =
-      inward (in-bind (record { variable = record { named = h; no-constant = b; no-true = e; no-false = f }; no-wildcard = c }) u) n
+      inward (in-bind (record { variable = record { named = h; no-dollar = b; no-true = e; no-false = f }; no-wildcard = c }) u) n
   inside (if-not a (if-not b (if-not c (if-not e (if-not f (if-not g (if-so k (if-so t (after (up (token o) w) (in-row ps z n)))))))))) = inward (in-and o w ps z) n
   inside (if-not a (if-not b (if-not c (if-not e (if-not f (if-not g (if-so k (if-not m (after (then (token o) (token h)) (in-row ps z n)))))))))) = inward (in-pattern o h m ps z) n
 

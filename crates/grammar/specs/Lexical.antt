@@ -3,7 +3,7 @@ use Prim.Native.Nat.{ℕ, _+_, _<_, _≤_}
 use mathlib.Core.Path.{_≡_}
 use mathlib.Core.List.{List, _∷_}
 use mathlib.Core.Bool.{true}
-use lib.ListN.{getD}
+use lib.ListN.{length, getD}
 use Rattle.trees.specs.Tree.{Tree, Trees, node, ∅, _▸_, head}
 use Rattle.trees.specs.Ast as ast
 use Rattle.trees.specs.Names.{spelled}
@@ -56,15 +56,16 @@ pub record Dollar (s : Input) (i : ℕ) : Type 0 where
   pub symbol : Symbol s i
   pub starts-so : getD (spelling s i) 0 0 ≡ 36
 
--- CONSTANT: a name that starts with `$`
+-- CONSTANT: a name that starts with `$` and has at least one character after it
 pub record Constant (s : Input) (i : ℕ) : Type 0 where
   pub named : Name s i
   pub dollar : Dollar s i
+  pub longer : 1 < length (spelling s i)
 
--- VARIABLE: a name that is no constant, and none of the words `true`, `false`
+-- VARIABLE: a name that does not start with `$`, and none of the words `true`, `false`
 pub record Variable (s : Input) (i : ℕ) : Type 0 where
   pub named : Name s i
-  pub no-constant : Dollar s i → ⊥
+  pub no-dollar : Dollar s i → ⊥
   pub no-true : Word s word-true i → ⊥
   pub no-false : Word s word-false i → ⊥
 

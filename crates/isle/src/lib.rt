@@ -21,7 +21,7 @@ ghost use Rattle.openings.specs.Meaning.{OpeningWorth};
 // and no others, nested at most 64 deep, and their records fit. 7, 1 and 2: this ground of document 01 holds and none before it.
 // 8 and 10 to 27: the tokens are good and nothing is derived; the place is the position of a token or the end, and it is 8 only
 // where the first pattern or expression of depth 65 begins. 6: the list is derived, and its records are more than the space.
-// `closed`: what is accepted, `isle_open` takes as a definition list.
+// `closed`: what is accepted, `isle_open` takes as a definition list, and no name in it is empty.
 #[no_mangle]
 pub extern "C" fn isle_read(tokens: &[u8], text: &[u8], end: u32, out: &mut [u8]) -> u64
     ensures answer { λ r. ⌜ Answered (reading (input (now (tokens .entry)) (now (text .entry)) end) (slots (now (out .entry)))) (length (now (out .entry))) (now (out .exit)) r ⌝ }
@@ -36,7 +36,7 @@ pub extern "C" fn isle_read(tokens: &[u8], text: &[u8], end: u32, out: &mut [u8]
 // it and refuses none, the grammar derives them as these trees and no others, nested at most 64 deep, and their records fit. 41: the first byte of 128 or more
 // stands there. 40: the lexer refuses there, behind tokens that it does not refuse. 7: the text is too long, or the lexer makes 16,385 tokens. 8 and 10 to 27:
 // nothing is derived, and the place is the position of a token that the lexer makes, or the end. 6: the text is derived, and its records are more than the space.
-// `closed`: what is accepted, `isle_open` takes as a definition list.
+// `closed`: what is accepted, `isle_open` takes as a definition list, and no name in it is empty.
 #[no_mangle]
 pub extern "C" fn isle_read_text(text: &[u8], out: &mut [u8]) -> u64
     ensures answer { λ r. ⌜ Answered (textReading (now (text .entry)) (slots (now (out .entry)))) (length (now (out .entry))) (now (out .exit)) r ⌝ }

@@ -176,18 +176,6 @@ goes-on-is tokens end i n k x p e a = rw (e, a, kind-is tokens end i)
 
 -- ---- names
 
-pub const-bad : (s : List ℕ) (c : ℕ) → c ≡ identRefusal s → (c ≡ 0 → ⊥) → c ≡ constRefusal s
-unfolding constRefusal
-const-bad s c e h = rw (← e, ne-eqb c 0 h)
-
-pub const-dollar : (s : List ℕ) (c x : ℕ) → c ≡ identRefusal s → c ≡ 0 → x ≡ getD s 0 0 → x ≡ 36 → 0 ≡ constRefusal s
-unfolding constRefusal
-const-dollar s c x e h f g = rw (← e, eq-eqb c 0 h, ← f, eq-eqb x 36 g)
-
-pub const-plain : (s : List ℕ) (c x : ℕ) → c ≡ identRefusal s → c ≡ 0 → x ≡ getD s 0 0 → (x ≡ 36 → ⊥) → 16 ≡ constRefusal s
-unfolding constRefusal
-const-plain s c x e h f g = rw (← e, eq-eqb c 0 h, ← f, ne-eqb x 36 g)
-
 pub ident-refused : (pos range c i n k j : ℕ) (l : List ℕ) → j ≡ i + 1 → (c ≡ 0 → ⊥) → Met (identAt pos range c i) n k l l (Refused (refusal c pos j))
 unfolding Met identAt
 ident-refused pos range c i n k j l f h = rw (f, ne-eqb c 0 h) refl
@@ -251,12 +239,6 @@ module _ (text : List ℕ) (pos range i n k : ℕ) (b : List ℕ) (c : ℕ) (l :
   pub name-put : (l′ : List ℕ) (x : Parsed) → c ≡ identRefusal b → Met (identAt pos range c i) n k l l′ x → Met (identAt pos range (identRefusal (spelled text range)) i) n k l l′ x
   name-put l′ x f m = rw (f, e) at m
 
-  pub const-put : (l′ : List ℕ) (x : Parsed) → c ≡ constRefusal b → c ≡ 0 → Met (identAt pos (range + 4294967295) 0 i) n k l l′ x → Met (identAt pos (range + 4294967295) (constRefusal (spelled text range)) i) n k l l′ x
-  const-put l′ x f z m = rw (← e, ← f, z) m
-
-  pub const-out : (j : ℕ) → c ≡ constRefusal b → (c ≡ 0 → ⊥) → j ≡ i + 1 → Met (identAt pos (range + 4294967295) (constRefusal (spelled text range)) i) n k l l (Refused (refusal c pos j))
-  const-out j f z g = rw (← e, ← f) (ident-refused pos (range + 4294967295) c i n k j l g z)
-
 -- what a state is known to be within
 pub ready-at : (c : ℕ) (s : Input) (p : Parsed) (i n k : ℕ) → Ready c s p → p ≡ Accepted i n k → At c s i n k
 unfolding Ready
@@ -270,28 +252,6 @@ next-fits c s p i n k h e = let a = ready-at c s p i n k h e in omega (arith, a 
 
 pub slot-fits : (c : ℕ) (s : Input) (p : Parsed) (i n k : ℕ) → Ready c s p → p ≡ Accepted i n k → Fits w64 (n + 1)
 slot-fits c s p i n k h e = let a = ready-at c s p i n k h e in omega (arith, a .few, a .here, a .room, a .slack)
-
--- a symbol that is a constant starts inside the text
-starts-inside : (text : List ℕ) (a n x : ℕ) → getD (take n (drop a text)) 0 0 ≡ 36 → a < length text
-starts-inside [] zero n x e = let z : getD (take {0} {A = ℕ} n []) 0 0 ≡ 0 = rw (take-nil {A = ℕ} n) refl in absurd (omega (arith, z))
-starts-inside [] (suc a) n x e = let z : getD (take {0} {A = ℕ} n []) 0 0 ≡ 0 = rw (take-nil {A = ℕ} n) refl in absurd (omega (arith, z))
-starts-inside (b ∷ bs) zero n x e = omega arith
-starts-inside (b ∷ bs) (suc a) n x e = omega (arith, starts-inside bs a n x e)
-
-const-first : (b : List ℕ) → constRefusal b ≡ 0 → getD b 0 0 ≡ 36
-unfolding constRefusal
-const-first b e = go (eqb (identRefusal b) 0) (eqb (getD b 0 0) 36) refl refl e
-  where
-    go : (u v : Bool) → eqb (identRefusal b) 0 ≡ u → eqb (getD b 0 0) 36 ≡ v → pick u (pick v 0 16) (identRefusal b) ≡ 0 → getD b 0 0 ≡ 36
-    go true true p q h = eqb-true (getD b 0 0) 36 q
-    go true false p q h = absurd (omega arith)
-    go false v p q h = let z : eqb (identRefusal b) 0 ≡ true = eq-eqb (identRefusal b) 0 h in let y : _≡_ {A = ℕ} 0 1 = cc in absurd (omega arith)
-
-pub const-fits : (text b : List ℕ) (d w : ℕ) → length text ≤ 65536 → b ≡ spelled text w → d ≡ constRefusal b → d ≡ 0 → Fits w64 (w + 4294967295)
-unfolding spelled
-const-fits text b d w h f g z =
-    let first : getD (take (w % 4294967296) (drop (w / 4294967296) text)) 0 0 ≡ 36 = rw f at (const-first b (sym g ∙ z)) in
-    omega (arith, h, starts-inside text (w / 4294967296) (w % 4294967296) 0 first)
 
 pub below-next : (i n k : ℕ) → Below i n k → i < 2 ^ 63
 below-next i n k h = omega (arith, h .at)

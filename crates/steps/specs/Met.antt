@@ -6,6 +6,7 @@ use mathlib.Core.Bool.{Bool, false, not}
 use lib.ListN.{length}
 use lib.Dec.{leb}
 use Rattle.trees.specs.Choice.{pick}
+use Rattle.trees.specs.Names.{Nonempty}
 use Rattle.trees.specs.Tree.{Trees, count, recordOf, recordsAll}
 use Rattle.trees.specs.declared.Head.{Head}
 use Rattle.records.specs.Slots.{put, writes}
@@ -13,6 +14,8 @@ use Rattle.records.specs.Result.{accepted, refused}
 use Rattle.tokens.specs.declared.Token.{Token}
 use Rattle.tokens.specs.Token.{tokenAt, pastLast, isRparen}
 use Rattle.tokens.specs.Input.{Input, size}
+use Rattle.steps.specs.declared.Cut.{Cut}
+use Rattle.steps.specs.declared.Cut.the-variants.{Name, NoName}
 use Rattle.steps.specs.declared.Parsed.{Parsed}
 use Rattle.steps.specs.declared.Parsed.the-variants.{Accepted, Refused}
 use Rattle.steps.specs.Outcome.{Outcome, accept, refuse, Reader}
@@ -126,3 +129,9 @@ Small (Refused e) = Unit {0}
 unfoldable pub Flags : (ℕ → ℕ) → Parsed → ℕ → Type 0
 Flags flags (Accepted i n k) x = x ≡ flags i
 Flags flags (Refused e) x = Unit {0}
+
+-- what cutting off the `$` of a symbol of this range comes to, where c is its refusal as a constant: the name that is left starts one later, is one shorter
+-- and is not empty
+unfoldable pub CutTo : ℕ → ℕ → Cut → Type 0
+CutTo range c (Name w) = (c ≡ 0) × (w ≡ range + 4294967295) × Nonempty w
+CutTo range c (NoName d) = (d ≡ c) × (c ≡ 0 → ⊥)

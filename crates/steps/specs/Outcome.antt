@@ -2,9 +2,9 @@
 -- Each function of parser.rs is such a reader, under its name.
 use Prim.Native.Nat.{ℕ, zero, suc, _+_}
 use mathlib.Core.List.{List, [], _∷_}
-use mathlib.Core.Bool.{Bool, true, false}
-use lib.ListN.{getD}
-use lib.Dec.{eqb}
+use mathlib.Core.Bool.{Bool, true, false, _&&_}
+use lib.ListN.{length, getD}
+use lib.Dec.{eqb, ltb}
 use Rattle.trees.specs.Choice.{pick, choose}
 use Rattle.trees.specs.Tree.{Tree, Trees, node, ∅, _▸_, _⧺_, count, head}
 use Rattle.trees.specs.declared.Head.{Head}
@@ -159,9 +159,9 @@ nameBy s judge range i =
 unfoldable pub parseIdent : Input → Reader
 parseIdent s i = nameBy s identRefusal (λ w. w) i
 
--- a constant is an identifier that starts with `$`, which is cut off: the start is one more, the length one less
+-- a constant is an identifier that starts with `$` and has at least one byte more. The `$` is cut off: the start is one more, the length one less
 unfoldable pub constRefusal : List ℕ → ℕ
-constRefusal b = pick (eqb (identRefusal b) 0) (pick (eqb (getD b 0 0) 36) 0 16) (identRefusal b)
+constRefusal b = pick (eqb (identRefusal b) 0) (pick (eqb (getD b 0 0) 36 && ltb 1 (length b)) 0 16) (identRefusal b)
 
 unfoldable pub parseConst : Input → Reader
 parseConst s i = nameBy s constRefusal (λ w. w + 4294967295) i

@@ -16,13 +16,13 @@ ghost use mathlib.Core.Path.{_≡_};
 ghost use Prim.Native.Nat.{ℕ, _+_, _-_, _*_, _/_, _≤_, _<_};
 ghost use lib.ListN.{length};
 ghost use mathlib.Core.Bool.{true};
-ghost use Rattle.trees.specs.Names.{spelled};
+ghost use Rattle.trees.specs.Names.{spelled, Nonempty};
 ghost use Rattle.trees.specs.Tree.{head};
 ghost use Rattle.tokens.specs.Token.{tokenAt, kindAt, pastLast, isKind, isLparen, isRparen, isSymbol, isAt, isConst, isWord};
 ghost use Rattle.tokens.specs.Ident.{identRefusal};
 ghost use Rattle.tokens.specs.Input.{Input, input};
 ghost use Rattle.steps.specs.Outcome.{parent, row, ate, eat, nameBy, refusedAs, pragmaRefusal, refuseAfter, unexpected, expectAt, refuseFrom, constRefusal, identAt, parseIdent, parseConst};
-ghost use Rattle.steps.specs.Met.{Met, Chained, moved, inside, Closed, Leafed, tokenFor, secondFor, Next, goesOn, endsAt, Ready, Below, Near, Small, Flags};
+ghost use Rattle.steps.specs.Met.{Met, Chained, moved, inside, Closed, Leafed, tokenFor, secondFor, Next, goesOn, endsAt, Ready, Below, Near, Small, Flags, CutTo};
 
 // Where reading stopped, and why: document 01's number and place, and how many tokens were consumed.
 pub struct Refusal {
@@ -233,7 +233,7 @@ pub fn goes_on(tokens: &[u8], end: u32, p: Parsed) -> bool
     kind_at(tokens, next) != Token::RPAREN
 }
 
-// 0 where s is an identifier that starts with `$`, and otherwise the refusal.
+// 0 where s is an identifier that starts with `$` and goes on, and otherwise the refusal.
 fn const_refusal(s: &[u8]) -> u8
     ensures { λ r. ⌜ r ≡ constRefusal (now (s .entry)) ⌝ }
 {
@@ -241,13 +241,35 @@ fn const_refusal(s: &[u8]) -> u8
     if c != 0 {
         return c;
     }
-    if first_byte(s) == b'$' {
-        return 0;
+    if first_byte(s) != b'$' {
+        return 16;
     }
-    16
+    if s.len() == 1 {
+        return 16;
+    }
+    0
+}
+
+// The name of a constant without its `$`, or why there is none.
+enum Cut {
+    Name(u64),
+    NoName(u8),
+}
+
+// What the Rust does with strip_prefix: the `$` of a symbol of this range is cut off. What is left starts one later, is one shorter, and is not empty.
+fn cut_dollar(text: &[u8], range: u64) -> Cut
+    requires { ⌜ length (now text) ≤ 65536 ⌝ }
+    ensures { λ r. ⌜ CutTo range (constRefusal (spelled (now (text .entry)) range)) r ⌝ }
+{
+    let c = const_refusal(spelling(text, range));
+    if c != 0 {
+        return Cut::NoName(c);
+    }
+    Cut::Name(range + 4294967295)
 }
 
 // The Ident of the token at an index, which stands at pos, at slot n after `items` trees of its row; or the refusal c where that is not 0.
+// Every Ident of what is read is written here, and its name is not empty.
 fn put_ident(
     tokens: &[u8],
     out: &mut [u8],
@@ -259,6 +281,7 @@ fn put_ident(
     c: u8,
 ) -> Parsed
     requires { ⌜ Below at n items ⌝ }
+    requires { ⌜ (c ≡ 0 → Nonempty range) ⌝ }
     ensures { λ r. ⌜ Met (identAt pos range c at) n items (now (out .entry)) (now (out .exit)) r ⌝ }
 {
     let next = after(tokens, at);
@@ -321,15 +344,18 @@ fn put_const(
     requires { ⌜ length (now text) ≤ 65536 ⌝ }
     ensures { λ r. ⌜ Met (identAt pos (range + 4294967295) (constRefusal (spelled (now (text .entry)) range)) at) n items (now (out .entry)) (now (out .exit)) r ⌝ }
 {
-    let c = const_refusal(spelling(text, range));
-    if c == 0 {
-        return put_ident(tokens, out, at, n, items, pos, range + 4294967295, 0);
+    match cut_dollar(text, range) {
+        Cut::Name(name) => {
+            return put_ident(tokens, out, at, n, items, pos, name, 0);
+        }
+        Cut::NoName(c) => {
+            return Parsed::Refused(Refusal {
+                code: c,
+                place: pos,
+                taken: after(tokens, at),
+            });
+        }
     }
-    Parsed::Refused(Refusal {
-        code: c,
-        place: pos,
-        taken: after(tokens, at),
-    })
 }
 
 pub fn parse_ident(tokens: &[u8], text: &[u8], end: u32, out: &mut [u8], p: Parsed) -> Parsed
@@ -583,6 +609,7 @@ pub fn parse_name_or(
     code: u8,
 ) -> Parsed
     requires { ⌜ Ready 4 (input (now tokens) (now text) end) p ⌝ }
+    requires { ⌜ 0 < code ⌝ }
     ensures { λ r. ⌜ Chained (nameBy (input (now (tokens .entry)) (now (text .entry)) end) (refusedAs code) (λ w. w)) p (now (out .entry)) (now (out .exit)) r ⌝ }
 {
     let Parsed::Accepted { next, count, items } = p else {

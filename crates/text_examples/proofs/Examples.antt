@@ -25,11 +25,11 @@ use Rattle.lexer.specs.Text.{lastOf, thenFrom, tokensFrom, recordsOf, lexed}
 use Rattle.lexer.specs.Quoted.{bytes}
 use Rattle.texts.specs.TextReading.{foremost, lookedAhead, parseText, isAscii, textReading}
 use Rattle.texts.proofs.ReadLaws.{token-bytes}
-use Rattle.text_examples.specs.Examples.{_at_, with-byte, nested, not-entered, entered, deep, saidOf, parseFirst, comesTo, outcomes, expected, met-before, met-after, names, places, high, space, ends, too-many, table}
+use Rattle.text_examples.specs.Examples.{_at_, with-byte, nested, not-entered, entered, deep, saidOf, parseFirst, comesTo, outcomes, expected, met-before, met-after, names, places, high, space, ends, too-many, dollars, table}
 
 -- all that reading a text computes with
 unfoldable pub computed : Unit {0}
-unfolding with-byte saidOf parseFirst comesTo outcomes expected met-before met-after names places high space ends too-many table bytes be8 be4 wordAt halfAt sameBytes spelled _⧺_ count records recordsAll word0 putWords put writes bytesOf bytesAll tokenAt isLparen isRparen isSymbol isInt isAt isRefused isTooMany isConst isWord letter starts goesOn allGoOn identRefusal before andThen _⊳_ nodeOf parent flagged bare leaf nothing refuseFrom refuseAfter ifNext ifSecond thenAt itemsFrom manyAt many unexpected expectAt ate eat identAt nameBy parseIdent constRefusal parseConst refusedAs pragmaRefusal compound patternIn parsePattern parseLetdef letInside parseExprInnerParens exprIn parseExpr parseIflet parseIfletIf parseIfletOrExpr noIflet parseTypeVariant parseTypevalue modifierFlags modifiersEnd parseModifiers parseType declFlags declModifiers declNames parseDecl parseAttrKindVeri parseAttrKind parseAttr parseExtern ruleName isI64 rulePriority ruleFlags ruleParts parseRule parsePragma isUncovered otherDef restDef parseDef parseDefs fitted isPair isSpace inLine isAsciiWhitespace isDecimal isSymFirst isSymOther isNumFirst isNumOther digit digitOn byteOn totalFrom negated runEnd blockEnd pass skip radixBy radixAt digitsAt signed digits unsigned number parenAt tokenBy tokenFrom nextToken lastOf thenFrom tokensFrom recordsOf foremost lookedAhead parseText isAscii textReading
+unfolding with-byte saidOf parseFirst comesTo outcomes expected met-before met-after names places high space ends too-many dollars table bytes be8 be4 wordAt halfAt sameBytes spelled _⧺_ count records recordsAll word0 putWords put writes bytesOf bytesAll tokenAt isLparen isRparen isSymbol isInt isAt isRefused isTooMany isConst isWord letter starts goesOn allGoOn identRefusal before andThen _⊳_ nodeOf parent flagged bare leaf nothing refuseFrom refuseAfter ifNext ifSecond thenAt itemsFrom manyAt many unexpected expectAt ate eat identAt nameBy parseIdent constRefusal parseConst refusedAs pragmaRefusal compound patternIn parsePattern parseLetdef letInside parseExprInnerParens exprIn parseExpr parseIflet parseIfletIf parseIfletOrExpr noIflet parseTypeVariant parseTypevalue modifierFlags modifiersEnd parseModifiers parseType declFlags declModifiers declNames parseDecl parseAttrKindVeri parseAttrKind parseAttr parseExtern ruleName isI64 rulePriority ruleFlags ruleParts parseRule parsePragma isUncovered otherDef restDef parseDef parseDefs fitted isPair isSpace inLine isAsciiWhitespace isDecimal isSymFirst isSymOther isNumFirst isNumOther digit digitOn byteOn totalFrom negated runEnd blockEnd pass skip radixBy radixAt digitsAt signed digits unsigned number parenAt tokenBy tokenFrom nextToken lastOf thenFrom tokensFrom recordsOf foremost lookedAhead parseText isAscii textReading
 computed = tt
 
 pub as-written : outcomes table ≡ expected table

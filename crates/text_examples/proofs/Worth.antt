@@ -3,15 +3,20 @@ use Prim.Native.Nat.{ℕ}
 use native.Mathlib.Omega.{arith}
 use mathlib.Core.Path.{_≡_, refl}
 use mathlib.Core.List.{List}
-use Rattle.trees.specs.Tree.{Trees}
+use lib.ListN.{length}
+use Rattle.trees.specs.Tree.{Trees, recordsAll}
 use Rattle.grammar.specs.Examples.{tree}
 use Rattle.exprs.specs.Examples.{id}
+use Rattle.records.specs.Slots.{recs}
+use Rattle.records.specs.Result.{refusalOf, accepted, refused}
+use Rattle.parser.specs.Reading as left
 use Rattle.parser.specs.Reading.{done, stopped, number, reading}
 use Rattle.lexer.specs.Quoted.{bytes}
 use Rattle.texts.specs.TextReading.{tokenInput, textReading}
-use Rattle.text_grammar.specs.TextMeaning.{TextDerived, TextAccepted, BadToken, FirstHigh, TextRefused, TextMeaning, TextTooLong}
+use Rattle.closed.specs.Closed.{Named, kept}
+use Rattle.text_grammar.specs.TextMeaning.{TextDerived, TextAccepted, BadToken, FirstHigh, TextRefused, TextMeaning, TextTooLong, TextClosed}
 use Rattle.text_grammar.proofs.Theorem.{meaning, worth}
-use Rattle.text_grammar.proofs.Exactly.{forty, exactly}
+use Rattle.text_grammar.proofs.Exactly.{forty, exactly, closed}
 use Rattle.text_grammar.proofs.AsLent.{as-lent}
 use Rattle.text_examples.specs.Examples.{with-byte}
 use Rattle.text_examples.proofs.Examples.{computed}
@@ -71,3 +76,40 @@ read-foreign = refl
 
 pub foreign-first : FirstHigh foreign 1
 foreign-first = exactly (worth foreign 7 168) .forty-one 1 (omega arith) .0 (rw read-foreign refl)
+
+-- ---- `(extern const $ T)` is refused with 16 at the `$`, and nothing is derived
+
+pub alone : List ℕ
+alone = bytes "(extern const $ T)"
+
+read-alone : (space : ℕ) → textReading alone space ≡ stopped 16 14
+unfolding alone computed
+read-alone space = refl
+
+pub alone-refused : (space : ℕ) → TextRefused alone space 16 14
+alone-refused space = refused-is (rw (read-alone space) at (meaning alone space))
+
+refusal-sixteen : refusalOf (number (stopped 16 14)) ≡ 16
+unfolding number refused
+refusal-sixteen = refl
+
+pub alone-underived : (us : Trees) → TextDerived alone us → ⊥
+alone-underived us d =
+    let n = length (recordsAll us) in
+    let z = exactly (worth alone n n) .accepts .1 (record { trees = us; derived = d; fits = omega arith }) in
+    omega (arith, refusal-sixteen, rw (read-alone n) at z)
+
+-- ---- `(extern const $a T)` is accepted, and no name among its records is empty
+
+pub constant : List ℕ
+constant = bytes "(extern const $a T)"
+
+accepts : refusalOf (number (textReading constant 3)) ≡ 0
+unfolding constant computed number accepted
+accepts = refl
+
+pub constant-closed : TextClosed constant (number (textReading constant 3)) (left.bytes 72 (textReading constant 3))
+constant-closed = closed (worth constant 3 72) accepts
+
+pub constant-named : Named (recs (kept (number (textReading constant 3)) (left.bytes 72 (textReading constant 3))))
+constant-named = constant-closed .closed .named

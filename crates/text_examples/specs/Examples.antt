@@ -1,4 +1,4 @@
--- Worked cases: what reading a text comes to where the lexer refuses a token, where there are too many, and at the end of the text.
+-- Worked cases: what reading a text comes to where the lexer refuses a token, where there are too many, at the end of the text, and for a `$` by itself.
 use Prim.Native.Nat.{ℕ, zero, suc}
 use Prim.Native.String.{String}
 use mathlib.Core.List.{List, [], _∷_, _++_}
@@ -206,8 +206,36 @@ too-many =
     ∷ up-to 3 (bytes "(rule a-b b") (7 at 0)
     ∷ []
 
+-- ---- a `$` by itself is no constant: 16 at it
+
+unfoldable pub dollars : List Case
+dollars =
+    -- as a pattern, as an expression, as an extern constant
+    (bytes "(rule n $ y)" gives 16 at 8)
+    ∷ (bytes "(rule (A) $)" gives 16 at 10)
+    ∷ (bytes "(extern const $ T)" gives 16 at 14)
+    -- with one character more it is one
+    ∷ (bytes "(rule n $a $b)" gives accepts 6)
+    ∷ (bytes "(rule n $$ $$)" gives accepts 6)
+    ∷ (bytes "(extern const $a T)" gives accepts 3)
+    ∷ (bytes "(extern const $$ T)" gives accepts 3)
+    -- a name it is still: a term's, a rule's, a type's
+    ∷ (bytes "(rule ($ x) ($ y))" gives accepts 9)
+    ∷ (bytes "(rule $ x y)" gives accepts 6)
+    ∷ (bytes "(rule $ $ y)" gives 16 at 8)
+    ∷ (bytes "(extern const $a $)" gives accepts 3)
+    -- what else is wrong with the name comes first, and what the lexer refuses behind it; not what it refuses one token further
+    ∷ (bytes "(extern const $- T)" gives 15 at 14)
+    ∷ (with-form-feed "(extern const $" gives 40 at 15)
+    ∷ (with-form-feed "(rule n $" gives 40 at 9)
+    ∷ (with-form-feed "(rule (A) $" gives 40 at 11)
+    ∷ (with-form-feed "(rule n $ y" gives 16 at 8)
+    ∷ up-to 5 (bytes "(rule n $ y)") (16 at 8)
+    ∷ up-to 4 (bytes "(rule n $ y)") (7 at 0)
+    ∷ []
+
 unfoldable pub table : List Case
-table = met-before ++ met-after ++ names ++ places ++ high ++ space ++ ends ++ too-many
+table = met-before ++ met-after ++ names ++ places ++ high ++ space ++ ends ++ too-many ++ dollars
 
 -- ---- depth
 

@@ -100,7 +100,7 @@ pub data TextWorth (text : List ℕ) (space n : ℕ) : ℕ → List ℕ → Type
   accepted : {us : Trees} → TextAccepted text space us → TextWorth text space n (number (done us)) (bytes n (done us))
   refused : {code place : ℕ} → TextRefused text space code place → TextWorth text space n (number (stopped code place)) (bytes n (stopped code place))
 
--- what reading a text writes, opening takes
+-- what reading a text writes, opening takes, and no name in it is empty
 pub record TextClosed (text : List ℕ) (r : ℕ) (l : List ℕ) : Type 0 where
   pub tokens : List Token
   pub whole : Whole text tokens

@@ -1,4 +1,5 @@
 use Rattle.steps.proofs.StepLaws.{stays, ready-below, other-read, other-other}
+use Rattle.steps.proofs.ConstLaws.{refused-nonempty}
 use borrow.Author.Needs.{needs}
 use Rattle.steps.proofs.parse_name_or.Statement.{statement}
 use Rattle.steps.proofs.parse_name_or.Tie as tie
@@ -28,7 +29,7 @@ refused-as-requires : tie.Need-refused-as-requires
 refused-as-requires c κs = search needs
 
 put-ident-requires : tie.Need-put-ident-requires
-put-ident-requires c κs = search ready-below
+put-ident-requires c κs = (search ready-below, search refused-nonempty)
 
 same-length : tie.Need-same-length
 same-length c = search needs

@@ -1,4 +1,5 @@
 use Rattle.steps.proofs.StepLaws.{stays, ready-below, pragma-read, pragma-other}
+use Rattle.steps.proofs.ConstLaws.{pragma-never}
 use borrow.Author.Needs.{needs}
 use Rattle.steps.proofs.parse_pragma_name.Statement.{statement}
 use Rattle.steps.proofs.parse_pragma_name.Tie as tie
@@ -28,7 +29,7 @@ pragma-refusal-requires : tie.Need-pragma-refusal-requires
 pragma-refusal-requires c κs = search needs
 
 put-ident-requires : tie.Need-put-ident-requires
-put-ident-requires c κs = search ready-below
+put-ident-requires c κs = (search ready-below, search pragma-never)
 
 same-length : tie.Need-same-length
 same-length c = search needs

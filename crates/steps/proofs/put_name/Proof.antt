@@ -1,4 +1,5 @@
 use Rattle.steps.proofs.StepLaws.{name-put}
+use Rattle.steps.proofs.ConstLaws.{identifier-nonempty}
 use borrow.Author.Needs.{needs}
 use Rattle.steps.proofs.put_name.Statement.{statement}
 use Rattle.steps.proofs.put_name.Tie as tie
@@ -10,7 +11,7 @@ ident-refusal-requires : tie.Need-ident-refusal-requires
 ident-refusal-requires c κs = search needs
 
 put-ident-requires : tie.Need-put-ident-requires
-put-ident-requires c κs = search needs
+put-ident-requires c κs = (search needs, search identifier-nonempty)
 
 same-length : tie.Need-same-length
 same-length c = search needs
