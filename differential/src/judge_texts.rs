@@ -1,6 +1,6 @@
 //! What reading of a text is to answer. The crate answers on the text itself. What it has no number
-//! for (7, 41, 8, 27) is told by document 02 from the bytes, and from the crate's answers on texts
-//! that are the same up to the place in question.
+//! for (7, 41, 8, 27, and 16 for a `$` alone) is told by document 02 from the bytes, and from the
+//! crate's answers on texts that are the same up to the place in question.
 
 use crate::model::{self, UNCOVERED};
 use crate::oracle;
@@ -32,18 +32,56 @@ fn refuse(number: u8, place: usize) -> Outcome {
 fn judge_plain(text: &str) -> Result<Outcome, String> {
     let lexed = Lexed::of(text);
     let covered = lexed.without_uncovered_words(text);
+    let first_dollar = lexed.first_dollar(&covered);
     if let Some(place) = lexed.too_deep(text) {
         let comes_so_far = read_before(&covered, place) == refuse(40, place);
-        return match comes_so_far {
+        return match comes_so_far && first_dollar.is_none_or(|dollar| dollar >= place) {
             true => Ok(refuse(8, place)),
             false => Err(format!("8 at {place}, where the crate does not come")),
         };
     }
-    let outcome = match lexed.after_most {
-        Some(place) => lexed.with_a_limit(&covered, place),
-        None => oracle::read_text(&covered),
+    if lexed.lone_dollar(text) != first_dollar {
+        return Err(format!("the crate's first `$` alone is {first_dollar:?}"));
+    }
+    let outcome = lexed.read(&covered);
+    match first_dollar {
+        Some(place) => judge_dollar(&covered, place, outcome),
+        None => Ok(outcome.map_err(|refusal| lexed.numbered(refusal))),
+    }
+}
+
+/// A `$` alone for a constant: 16 is due where the crate refuses the spelling of another name in its
+/// place. It does not where the lexer refuses the token behind, or that is one too many. Then the
+/// outcome is that for the text as it is.
+fn judge_dollar(text: &str, place: usize, outcome: Outcome) -> Result<Outcome, String> {
+    let other = format!("{}$-{}", &text[..place], &text[place + 1..]);
+    let lexed = Lexed::of(&other);
+    let of_other = lexed.read(&other);
+    if of_other == refuse(15, place) {
+        return Ok(refuse(16, place));
+    }
+    let is_last = lexed.last_place() == Some(place);
+    let refused_behind = match (&outcome, &of_other) {
+        (Err(a), Err(b)) if a.number == 40 => b.number == 40 && b.place == a.place + 1,
+        _ => outcome == refuse(7, 0) && of_other == outcome,
     };
-    Ok(outcome.map_err(|refusal| lexed.numbered(refusal)))
+    match is_last && refused_behind {
+        true => Ok(outcome),
+        false => Err(format!("16 at {place}, but with `$-` there {of_other:?}")),
+    }
+}
+
+/// Whether the crate reads a constant after a text. It reads a name there, since it looks at the
+/// spelling of one; and an integer will do as well, or only a constant's name. The blank keeps the
+/// integer apart from another before it.
+fn reads_constant(before: &str) -> bool {
+    let place = before.len() + 1;
+    let read = |piece: &str| oracle::read_text(&format!("{before} {piece} "));
+    let takes_integer = || match read("0") {
+        Err(refusal) => refusal.place as usize > place,
+        Ok(_) => true,
+    };
+    read("$-") == refuse(15, place) && (takes_integer() || read("x") == refuse(16, place))
 }
 
 /// The crate's reading of what stands before a place, with a byte after it that the lexer refuses:
@@ -58,6 +96,8 @@ struct Lexed {
     tokens: Vec<Words>,
     /// Where the symbols start that are one of the uncovered words.
     uncovered: Vec<usize>,
+    /// Where the symbols start that are a `$` alone.
+    dollars: Vec<usize>,
     /// Whether the text ends after these tokens.
     whole: bool,
     /// Where the token starts that is one too many and that the lexer takes.
@@ -69,6 +109,7 @@ impl Lexed {
         let mut lexed = Lexed {
             tokens: Vec::new(),
             uncovered: Vec::new(),
+            dollars: Vec::new(),
             whole: false,
             after_most: None,
         };
@@ -91,10 +132,12 @@ impl Lexed {
 
     fn add(&mut self, place: usize, token: &Token) {
         self.tokens.push(oracle::token_record(place as u32, token));
-        if let Token::Symbol(name) = token
-            && UNCOVERED.contains(&name.as_bytes())
-        {
-            self.uncovered.push(place);
+        match token {
+            Token::Symbol(name) if UNCOVERED.contains(&name.as_bytes()) => {
+                self.uncovered.push(place)
+            }
+            Token::Symbol(name) if name == "$" => self.dollars.push(place),
+            _ => {}
         }
     }
 
@@ -123,13 +166,44 @@ impl Lexed {
     /// Where the model meets depth 65 over these tokens, if that is at one of them or at the end of
     /// the text.
     fn too_deep(&self, text: &str) -> Option<usize> {
-        let end = text.len() + !self.whole as usize;
-        let read = model::read(&bytes_of(&self.tokens), text.as_bytes(), end as u32);
+        let read = model::read(&bytes_of(&self.tokens), text.as_bytes(), self.end(text));
         match read {
             Err(Refusal { number: 8, place }) if place as usize <= text.len() => {
                 Some(place as usize)
             }
             _ => None,
+        }
+    }
+
+    /// Where the model meets a `$` alone for a constant over these tokens, before any other refusal.
+    fn lone_dollar(&self, text: &str) -> Option<usize> {
+        let tokens = bytes_of(&self.tokens);
+        let index = model::lone_dollar(&tokens, text.as_bytes(), self.end(text))?;
+        Some(lower(self.tokens[index][0]) as usize)
+    }
+
+    /// Where the first `$` alone stands for which the crate reads a constant.
+    fn first_dollar(&self, covered: &str) -> Option<usize> {
+        let mut dollars = self.dollars.iter().copied();
+        dollars.find(|&place| reads_constant(&covered[..place]))
+    }
+
+    /// The end position for the model: above the text's if there is more after these tokens.
+    fn end(&self, text: &str) -> u32 {
+        (text.len() + !self.whole as usize) as u32
+    }
+
+    /// Where the last of these tokens starts.
+    fn last_place(&self) -> Option<usize> {
+        let words = self.tokens.last()?;
+        Some(lower(words[0]) as usize)
+    }
+
+    /// The crate's reading of the text without uncovered words, within the limit on tokens.
+    fn read(&self, covered: &str) -> Outcome {
+        match self.after_most {
+            Some(place) => self.with_a_limit(covered, place),
+            None => oracle::read_text(covered),
         }
     }
 

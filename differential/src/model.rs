@@ -1,4 +1,4 @@
-//! A small model of reading, written from 01 over token records and apart from the Rust.
+//! A small model of reading, written from 01 and 02 over token records and apart from the Rust.
 //! It judges every lent input, also where the crate has nothing to say.
 
 use crate::records::*;
@@ -16,33 +16,53 @@ pub const UNCOVERED: [&[u8]; 6] = [
     b"instantiate",
 ];
 
-/// The reading of lent bytes: the complete list of records, or the first refusal.
-pub fn read(tokens: &[u8], text: &[u8], end: u32) -> Outcome {
-    read_to_depth(tokens, text, end, DEEPEST)
+/// Where reading refuses what the crate reads.
+#[derive(Clone, Copy)]
+pub struct Rules {
+    /// The depth that is still read.
+    pub deepest: usize,
+    /// Whether a `$` alone is a constant, with an empty name.
+    pub lone_dollars: bool,
 }
 
-/// The same with another limit on depth.
-pub fn read_to_depth(tokens: &[u8], text: &[u8], end: u32, deepest: usize) -> Outcome {
-    if tokens.len() / WIDTH > MAX_TOKENS || text.len() > MAX_TEXT {
-        return refuse(7, 0);
-    }
-    if tokens.len() % WIDTH != 0 {
-        return refuse(1, 0);
-    }
-    let mut list = Vec::new();
-    for (index, words) in words_of(tokens).into_iter().enumerate() {
-        match Token::of(words, text, end) {
-            Some(token) => list.push(token),
-            None => return refuse(2, index as u32),
-        }
-    }
-    let mut reader = Reader {
-        tokens: list,
-        end,
-        next: 0,
-        deepest,
-    };
+/// The rules of reading.
+pub const RULES: Rules = Rules {
+    deepest: DEEPEST,
+    lone_dollars: false,
+};
+
+/// The crate has neither of these rules.
+pub const AS_THE_CRATE: Rules = Rules {
+    deepest: usize::MAX,
+    lone_dollars: true,
+};
+
+/// The reading of lent bytes: the complete list of records, or the first refusal.
+pub fn read(tokens: &[u8], text: &[u8], end: u32) -> Outcome {
+    read_by(tokens, text, end, RULES)
+}
+
+/// The same by other rules.
+pub fn read_by(tokens: &[u8], text: &[u8], end: u32, rules: Rules) -> Outcome {
+    let mut reader = Reader::of(tokens, text, end, rules)?;
     Ok(records_of(&reader.definitions()?))
+}
+
+/// The index of the `$` that reading refuses, because it stands alone for a constant.
+pub fn lone_dollar(tokens: &[u8], text: &[u8], end: u32) -> Option<usize> {
+    let mut reader = Reader::of(tokens, text, end, RULES).ok()?;
+    let refusal = reader.definitions().err()?;
+    let found = refusal.number == 16 && reader.at_word(|name| name == b"$");
+    found.then_some(reader.next)
+}
+
+/// How many tokens reading takes before it refuses, if it comes to read them; all if it accepts.
+pub fn taken(tokens: &[u8], text: &[u8], end: u32) -> usize {
+    let Ok(mut reader) = Reader::of(tokens, text, end, RULES) else {
+        return 0;
+    };
+    let _ = reader.definitions();
+    reader.next
 }
 
 fn refuse<T>(number: u8, place: u32) -> Result<T, Refusal> {
@@ -116,10 +136,33 @@ struct Reader<'a> {
     tokens: Vec<Token<'a>>,
     end: u32,
     next: usize,
-    deepest: usize,
+    rules: Rules,
 }
 
 impl<'a> Reader<'a> {
+    /// A reader before the first of these tokens, or the refusal of one that is bad or of too many.
+    fn of(tokens: &[u8], text: &'a [u8], end: u32, rules: Rules) -> Read<Reader<'a>> {
+        if tokens.len() / WIDTH > MAX_TOKENS || text.len() > MAX_TEXT {
+            return refuse(7, 0);
+        }
+        if tokens.len() % WIDTH != 0 {
+            return refuse(1, 0);
+        }
+        let mut list = Vec::new();
+        for (index, words) in words_of(tokens).into_iter().enumerate() {
+            match Token::of(words, text, end) {
+                Some(token) => list.push(token),
+                None => return refuse(2, index as u32),
+            }
+        }
+        Ok(Reader {
+            tokens: list,
+            end,
+            next: 0,
+            rules,
+        })
+    }
+
     fn peek(&self) -> Option<What<'a>> {
         self.tokens.get(self.next).map(|token| token.what)
     }
@@ -188,12 +231,17 @@ impl<'a> Reader<'a> {
         if let Some(number) = identifier_fault(name) {
             return refuse(number, position);
         }
-        if cut == 1 && name[0] != b'$' {
+        if cut == 1 && !self.is_constant(name) {
             return refuse(16, position);
         }
         self.next += 1;
         let range = pair(start + cut, name.len() as u32 - cut);
         Ok(Node::new(24, position, vec![]).word1(range))
+    }
+
+    /// Whether an identifier starts with `$`, and has at least one character after it.
+    fn is_constant(&self, name: &[u8]) -> bool {
+        name[0] == b'$' && (name.len() > 1 || self.rules.lone_dollars)
     }
 
     fn name(&mut self) -> Read<Node> {
@@ -433,7 +481,7 @@ impl<'a> Reader<'a> {
     }
 
     fn enter(&self, depth: usize) -> Read<u32> {
-        if depth > self.deepest {
+        if depth > self.rules.deepest {
             return refuse(8, self.place());
         }
         Ok(self.place())

@@ -77,7 +77,8 @@ fn written_out(lent: &Lent) -> Option<(String, Places)> {
     Some((text, Places(Some(places))))
 }
 
-fn symbol_text(lent: &Lent, words: Words) -> Option<&str> {
+/// The name of a symbol; none if it is outside the text or is not UTF-8.
+pub fn symbol_text(lent: &Lent, words: Words) -> Option<&str> {
     let start = upper(words[1]) as usize;
     let bytes = lent.text.get(start..start + lower(words[1]) as usize)?;
     std::str::from_utf8(bytes).ok()
