@@ -36,7 +36,12 @@ impl Random {
 const NAMES: &[&str] = &[
     "x", "y", "z", "A", "B", "T", "Foo", "u8", "lower", "_a", "a.b", "E.V", "x1", "a$", "iadd", "_9",
 ];
-const CONSTANTS: &[&str] = &["$c", "$C1", "$", "$_", "$.x", "$$"];
+/// A `$` alone is refused as a constant, so it is rare.
+#[rustfmt::skip]
+const CONSTANTS: &[&str] = &[
+    "$c", "$C1", "$", "$_", "$.x", "$$", "$a", "$B", "$x", "$T1", "$0", "$9_", "$.", "$..", "$_.a", "$__",
+    "$$c", "$c$", "$$$", "$a.b", "$true", "$and", "$if", "$const", "$long_name", "$E.V", "$y", "$z9",
+];
 #[rustfmt::skip]
 const WORDS: &[&str] = &[
     "pragma", "type", "decl", "attr", "spec", "macro", "state", "model", "form", "instantiate",

@@ -29,6 +29,7 @@ fn many_tokens() -> Vec<Lent> {
         ("(type S (struct ", "T ", "))"),
         ("(decl f (", "T ", ") U)"),
         ("(extractor (P) (A ", "x ", "))"),
+        ("(rule (A) (B ", "$c ", "))"),
         ("(rule (A) (B ", "$ ", "))"),
         ("(rule (A ", "1 ", ") y)"),
     ];
