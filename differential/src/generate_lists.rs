@@ -1,7 +1,7 @@
 //! Random record lists for templates, substitution and opening.
 
 use crate::generate::Random;
-use crate::hand;
+use crate::hand_lists::whole_texts;
 use crate::oracle::Places;
 use crate::records::*;
 use crate::steps::*;
@@ -91,7 +91,7 @@ pub fn opening_text(random: &mut Random) -> String {
     let mut callable: Vec<Callable> = Vec::new();
     for i in 0..random.below(5) {
         if random.once_in(4) {
-            text += random.pick(hand::WHOLE);
+            text += random.pick(&whole_texts());
         }
         let name = match random.once_in(60) {
             true => random.pick(EXTRACTORS),

@@ -1,5 +1,7 @@
-//! Hand-written cases: the examples of 01, its grammar points, limits, depth, bad tokens.
+//! Hand-written cases: the examples of 01, its grammar points, limits, depth, bad tokens, and
+//! constants that are a `$` alone.
 
+use crate::model::DEEPEST;
 use crate::oracle::{Lent, lex};
 use crate::records::*;
 
@@ -20,6 +22,11 @@ pub const EXAMPLES: &[(&str, u8, u32, usize)] = &[
     ("(spec", 27, 1, 0),
     ("(rule x _ _)", 0, 0, 5),
 ];
+
+/// A rule with constants about as short as may be.
+pub const NAMED_CONSTANTS: &str = "(rule (A) (if x) (if-let true 5) (if-let $c $$) true)";
+/// The same with empty names, which reading refuses, but which lists that are lent may have.
+pub const EMPTY_CONSTANTS: &str = "(rule (A) (if x) (if-let true 5) (if-let $ $) true)";
 
 /// One whole text or more for each definition form. Each is damaged at every token.
 pub const WHOLE: &[&str] = &[
@@ -43,7 +50,7 @@ pub const WHOLE: &[&str] = &[
     "(rule (and a (and) _ false) (let () x))",
     "(rule a x y)",
     "(rule r x @ y z)",
-    "(rule (A) (if x) (if-let true 5) (if-let $ $) true)",
+    NAMED_CONSTANTS,
     "(extractor (P) _)",
     "(extractor (P x y) (A x @ _ y))",
     "(extractor (P x) (and x x))",
@@ -95,7 +102,93 @@ pub const POINTS: &[&str] = &[
     "(decl a_b.c$d1 (_ $ $.) __)", "(decl .a () T)", "(decl a.b-c () T)", "(decl a () -)",
     "(decl a' () T)", "(decl _ (_) _)", "(decl $ ($) $)", "(decl a\u{b} () T)", "(decl \u{b}a () T)",
     "(decl a () T\u{7f})", "(extern const $-c T)", "(extern const $c-d T)", "(extern const $ T)",
+    "(extern const $$ T)", EMPTY_CONSTANTS,
 ];
+
+/// A `$` alone is refused where a constant stands, and there only: text, refusal and place. What is
+/// accepted has place 0.
+#[rustfmt::skip]
+const DOLLARS: &[(&str, u8, u32)] = &[
+    // The three places of a constant, with a name and without.
+    ("(rule n $ y)", 16, 8), ("(rule n x $)", 16, 10), ("(extern const $ T)", 16, 14),
+    ("(rule n $a y)", 0, 0), ("(rule n x $a)", 0, 0), ("(extern const $a T)", 0, 0), ("(rule n $$ y)", 0, 0),
+    ("(rule n x $$)", 0, 0), ("(extern const $$ T)", 0, 0), ("(rule n $. $0)", 0, 0),
+    ("(extern const $_ T)", 0, 0),
+    // As a name it is fine.
+    ("(rule $ x y)", 0, 0), ("(rule ($ x) y)", 0, 0), ("(rule (A x) ($ y))", 0, 0), ("(rule ($) ($))", 0, 0),
+    ("(rule (A) (let (($ $ y)) z))", 0, 0), ("(extractor ($ $) $a)", 0, 0),
+    ("(extern constructor $ $)", 0, 0), ("(extern extractor $ $)", 0, 0),
+    ("(extern extractor infallible $ $)", 0, 0), ("(extern const $c $)", 0, 0), ("(decl $ ($) $)", 0, 0),
+    ("(type $ (primitive $))", 0, 0), ("(type $ (enum $ ($ $) ($ ($ $))))", 0, 0),
+    ("(type $ (struct $))", 0, 0), ("(attr $ (tag $))", 0, 0), ("(attr rule $)", 0, 0),
+    ("(convert $ $ $)", 0, 0), ("(pragma $)", 17, 8), ("(type T $ (enum))", 18, 10), ("(type T ($))", 19, 8),
+    ("(attr f ($))", 20, 9), ("(attr f (veri $))", 21, 14), ("(extern $ T)", 22, 8), ("($ x)", 12, 1),
+    ("$", 10, 0), ("$)", 10, 0), ("(decl f $ T)", 10, 8),
+    // Inside patterns and expressions, the first of several.
+    ("(rule $ $ y)", 16, 8), ("(rule $ $ $)", 16, 8), ("(rule n 5 $ y)", 16, 10), ("(rule 5 $ y)", 16, 8),
+    ("(rule 5$ y)", 16, 7), ("(rule (A $) y)", 16, 9), ("(rule (A $ $) $)", 16, 9), ("(rule ($ $) y)", 16, 9),
+    ("(rule (A x $) y)", 16, 11), ("(rule (and $) y)", 16, 11), ("(rule (A (B $)) y)", 16, 12),
+    ("(rule n x @ $ y)", 16, 12), ("(rule n x@$ y)", 16, 10), ("(rule (A $ @ x) y)", 16, 9),
+    ("(rule (A $@x) y)", 16, 9), ("(rule (A $c @ x) y)", 25, 12), ("(rule $ @ x y)", 25, 8),
+    ("(rule (A) (if $) y)", 16, 14), ("(rule (A) (if-let $ y) z)", 16, 18),
+    ("(rule (A) (if-let x $) z)", 16, 20), (EMPTY_CONSTANTS, 16, 41), (NAMED_CONSTANTS, 0, 0),
+    ("(rule (A) (B $))", 16, 13), ("(rule (A) ($ $))", 16, 13), ("(rule (A) (let ((x T $)) x))", 16, 21),
+    ("(rule (A) (let (($ $ $)) x))", 16, 21), ("(rule (A) (let () $))", 16, 18),
+    ("(rule (A) (let ((x T y)) $))", 16, 25), ("(extractor (P) $)", 16, 15), ("(extractor ($ $) $)", 16, 17),
+    ("(extractor (P x) (A x $))", 16, 22), ("(rule n $;c\n y)", 16, 8), ("(rule n $(;c;)y)", 16, 8),
+    // Before what is refused behind it, also at the end.
+    ("(rule n $", 16, 8), ("(rule n x $", 16, 10), ("(extern const $", 16, 14), ("(rule n $)", 16, 8),
+    ("(rule $)", 25, 7), ("(extern const $)", 16, 14), ("(extern const $ 5)", 16, 14),
+    ("(extern const $ $-)", 16, 14), ("(rule n $ $-)", 16, 8), ("(rule n x $ y)", 16, 10),
+    ("(rule n x $ $ )", 16, 10), ("(rule n $ y) (foo)", 16, 8), ("(rule n x $) )", 16, 10),
+    // After what is refused before it, and after a spelling that is refused otherwise.
+    ("(foo) (rule n $ y)", 12, 1), ("(rule a-b $ y)", 23, 6), ("(rule 9223372036854775808 $ y)", 24, 6),
+    ("(rule (#a $) y)", 14, 7), ("(rule (a-b $) y)", 15, 7), ("(rule n $- y)", 15, 8),
+    ("(rule n x $-)", 15, 10), ("(extern const $-c T)", 15, 14), ("(extern const c $)", 16, 14),
+    ("(rule n $- $)", 15, 8), ("(rule @ $)", 25, 6),
+    // Before and after a word that is not covered, and where such a word is a name.
+    ("(rule n $ y) (spec", 16, 8), ("(rule n x $) (spec (f) $)", 16, 10),
+    ("(extern const $ T)(form)", 16, 14), ("(spec) (rule n $ y)", 27, 1),
+    ("(rule n x y) (model $) (rule n $ y)", 27, 14), ("(rule n spec $)", 16, 13),
+];
+
+/// The cases of a `$` alone, short and deep.
+pub fn dollars() -> impl Iterator<Item = (String, u8, u32)> {
+    let short = DOLLARS.iter();
+    let deep = deep_dollars().into_iter();
+    short
+        .map(|&(text, number, place)| (text.to_string(), number, place))
+        .chain(deep.map(|(text, number, place)| (text, number, place as u32)))
+}
+
+/// The same about as deep as may be: 8 comes first at depth 65, whatever stands there.
+pub fn deep_dollars() -> Vec<(String, u8, usize)> {
+    let terms = |count: usize| "(A ".repeat(count);
+    let (deep, deeper) = (terms(DEEPEST - 1), terms(DEEPEST));
+    let (length, close) = (deep.len(), ")".repeat(DEEPEST));
+    let (binds, bodies) = ("a@".repeat(DEEPEST - 1), "(let () ".repeat(DEEPEST - 1));
+    vec![
+        (format!("(rule {deep}$"), 16, 6 + length),
+        (format!("(rule {deeper}$"), 8, 6 + deeper.len()),
+        (format!("(rule {deeper}$c"), 8, 6 + deeper.len()),
+        (format!("(rule n x {deep}$"), 16, 10 + length),
+        (format!("(rule n x {deeper}$"), 8, 10 + deeper.len()),
+        (format!("(rule n {binds}$ y)"), 16, 8 + binds.len()),
+        (format!("(rule n {binds}a@$ y)"), 8, 10 + binds.len()),
+        (format!("(rule n x {bodies}$"), 16, 10 + bodies.len()),
+        (format!("(rule n x {bodies}(let () $"), 8, 18 + bodies.len()),
+        (format!("(rule {deeper}x{close} $)"), 8, 6 + deeper.len()),
+        (format!("(rule {deep}(A x $"), 8, 9 + length),
+        (format!("(rule {deep}$ (A x"), 16, 6 + length),
+        (format!("(rule (A $ {deeper}x"), 16, 9),
+        (format!("(rule n $ {deeper}x"), 16, 8),
+        (
+            format!("(rule n {deep}x{} $)", &close[1..]),
+            16,
+            9 + length + DEEPEST,
+        ),
+    ]
+}
 
 /// Integers at the limits, as priority, pattern and expression.
 pub fn integer_texts() -> Vec<String> {
@@ -187,6 +280,7 @@ pub fn token_lists() -> Vec<Lent> {
     }
     lists.extend(ends(&good));
     lists.extend(high_bytes());
+    lists.extend(cut_constants());
     lists
 }
 
@@ -216,6 +310,33 @@ fn empty_symbols() -> Vec<Lent> {
             bad.tokens[i] = symbol_token(position, good.text.len() as u32, 0);
             lists.push(bad);
         }
+    }
+    lists
+}
+
+/// Symbols that are the `$` of a longer one in the text, each alone and all of them; the position is
+/// another than the symbol's start.
+fn cut_constants() -> Vec<Lent> {
+    let texts = [
+        "(rule $n $a $b)",
+        "(rule ($A $x) ($B $y))",
+        "(extern const $c $T)",
+        "(extractor ($P $x) $c)",
+    ];
+    let mut lists = Vec::new();
+    for text in texts {
+        let good = lex(text).expect("a good text");
+        let mut all = good.clone();
+        for i in 0..good.tokens.len() {
+            let start = upper(good.tokens[i][1]);
+            if good.text[start as usize] == b'$' {
+                let mut one = good.clone();
+                one.tokens[i] = symbol_token(start + 1, start, 1);
+                all.tokens[i] = one.tokens[i];
+                lists.push(one);
+            }
+        }
+        lists.push(all);
     }
     lists
 }

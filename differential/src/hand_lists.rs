@@ -1,8 +1,22 @@
 //! Hand-written texts and lists for templates, substitution and opening.
 
+use crate::hand::{EMPTY_CONSTANTS, NAMED_CONSTANTS, WHOLE};
 use crate::records::Words;
 
 pub const WILDCARD: Words = [36 << 56, 0, 0];
+
+/// A definition list takes an extern constant with an empty name as well.
+pub const EMPTY_EXTERN: &str = "(extern const $ T)";
+
+/// The whole texts for lists that are lent: constants have an empty name in one of them. The crate
+/// reads it, and so makes lists that reading does not make.
+pub fn whole_texts() -> Vec<&'static str> {
+    let lent = |text: &&'static str| match *text {
+        NAMED_CONSTANTS => EMPTY_CONSTANTS,
+        text => text,
+    };
+    WHOLE.iter().map(lent).collect()
+}
 
 /// Template making takes the last extractor; substitution takes the rules' patterns as well.
 pub const TEMPLATES: &[&str] = &[

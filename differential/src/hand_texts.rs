@@ -1,7 +1,7 @@
 //! Hand-written cases for reading of text: the sentences of document 02, and texts spoilt at every
 //! token and at the limits.
 
-use crate::hand::{POINTS, WHOLE, deep_texts, pieces_of};
+use crate::hand::*;
 use crate::model::DEEPEST;
 use crate::oracle::lex;
 use crate::records::*;
@@ -57,13 +57,27 @@ pub const CASES: &[(&str, u8, u32)] = &[
     ("(rule \u{c}", 40, 6), ("(rule n 5 \u{c}", 40, 10), ("(rule 5 \u{c}", 40, 8), ("(rule n x \u{c}", 40, 10),
     ("(rule (rule n \u{c}", 40, 14), ("(rule (A) (rule n \u{c}", 40, 18), ("(decl f (rule n \u{c}", 40, 16),
     ("(attr rule n \u{c}", 40, 13), ("(extractor (rule n \u{c}", 40, 19), ("(rules n \u{c}", 12, 1),
+    // A `$` alone for a constant is consumed before it is refused.
+    ("(rule n $ \u{c}", 40, 10), ("(rule n $\u{c}", 40, 9), ("(rule n $ y \u{c}", 16, 8), ("(rule n $ -", 40, 10),
+    ("(rule n $ (; y)", 40, 10), ("(rule n $(; y)", 40, 9), ("(rule n $) 0x", 16, 8), ("(rule n $ 12a", 40, 10),
+    ("(rule n x $ \u{c}", 40, 12), ("(rule n x $\u{c})", 40, 11), ("(rule n x $) \u{c}", 16, 10),
+    ("(rule n x $)\u{c}", 16, 10), ("(extern const $ \u{c}", 40, 16), ("(extern const $\u{c} T)", 40, 15),
+    ("(extern const $ T \u{c}", 16, 14), ("(extractor (P) $ \u{c}", 40, 17), ("(extractor (P) $) \u{c}", 16, 15),
+    ("(rule n $ $ \u{c}", 16, 8), ("(rule (A $ \u{c}", 40, 11), ("(rule (A x @ $ \u{c}", 40, 15),
+    ("(rule n $- \u{c}", 40, 11), ("(rule n $- y \u{c}", 15, 8), ("(rule n $c \u{c}", 40, 11),
+    // What stands before it comes before it, and a byte of 128 or more anywhere.
+    ("(rule n \u{c} $", 23, 6), ("(rule n x \u{c} $", 40, 10), ("(rule $ \u{c}", 23, 6), ("(rule $ $ \u{c}", 40, 10),
+    ("(rule ($ \u{c}", 40, 9), ("(spec) (rule n $ \u{c}", 27, 1), ("(rule n $ y) (spec) \u{c}", 16, 8),
+    ("(rule n $ spec \u{c}", 16, 8), ("(rule n $ y)\u{80}", 41, 12),
 ];
 
 /// The cases of a few bytes. A character of 128 or more stands for one byte.
 pub fn short_cases() -> impl Iterator<Item = (Vec<u8>, u8, u32)> {
     let bytes = |text: &str| text.chars().map(|c| c as u8).collect();
     let cases = CASES.iter();
-    cases.map(move |&(text, number, place)| (bytes(text), number, place))
+    cases
+        .map(move |&(text, number, place)| (bytes(text), number, place))
+        .chain(dollars().map(|(text, number, place)| (text.into_bytes(), number, place)))
 }
 
 /// The sentences on limits, with the texts that they need.
@@ -71,6 +85,7 @@ pub fn long_cases() -> Vec<(Vec<u8>, u8, u32)> {
     let mut cases = most_bytes();
     cases.extend(most_tokens());
     cases.extend(deepest());
+    cases.extend(dollar_last());
     let bytes = |(text, number, place): Case| (text.into_bytes(), number, place as u32);
     cases.into_iter().map(bytes).collect()
 }
@@ -154,6 +169,25 @@ fn deepest() -> Vec<Case> {
     ]
 }
 
+/// A `$` alone for a constant about the last token that may be: 7 if the one behind it is too many.
+#[rustfmt::skip]
+fn dollar_last() -> Vec<Case> {
+    let after = |count: usize, tail: &str| filler(count) + tail;
+    let start = |count: usize| filler(count).len();
+    let most = MAX_TOKENS;
+    vec![
+        (after(most - 4, "(rule 5 $ x"), 7, 0),
+        (after(most - 4, "(rule 5 $"), 16, start(most - 4) + 8),
+        (after(most - 4, "(rule 5 $ \u{c}"), 40, start(most - 4) + 10),
+        (after(most - 5, "(rule 5 $ x"), 16, start(most - 5) + 8),
+        (after(most - 5, "(rule 5 $ x y"), 16, start(most - 5) + 8),
+        (after(most - 5, "(rule 5 x $ y"), 7, 0),
+        (after(most - 6, "(rule 5 x $ y"), 16, start(most - 6) + 10),
+        (after(most - 4, "(extern const $ T"), 7, 0),
+        (after(most - 5, "(extern const $ T)"), 16, start(most - 5) + 14),
+    ]
+}
+
 /// An accepted text of so many tokens, at least seven.
 pub fn filler(tokens: usize) -> String {
     let variants = tokens - "( type E ( enum ) )".split(' ').count();
@@ -216,6 +250,22 @@ fn replaced_and_spoilt(pieces: &[&str], i: usize) -> Vec<Vec<u8>> {
     others.iter().flat_map(with).collect()
 }
 
+/// Each hand-written text with a `$` alone in the place of each of its tokens: whole, and cut off
+/// after it.
+pub fn dollar_everywhere() -> impl Iterator<Item = Vec<u8>> {
+    let taken = |text: &&&str| lex(text).is_some();
+    let texts = WHOLE.iter().chain(POINTS).filter(taken);
+    texts.flat_map(|text| {
+        let pieces = pieces_of(text);
+        let each = |i: usize| {
+            let mut list = pieces.clone();
+            list[i] = "$";
+            [list.join(" "), list[..=i].join(" ")].map(String::into_bytes)
+        };
+        (0..pieces.len()).flat_map(each).collect::<Vec<_>>()
+    })
+}
+
 /// Every text of so many bytes from the front of a hand-written one.
 pub fn cut_everywhere() -> impl Iterator<Item = Vec<u8>> {
     let texts = WHOLE.iter().chain(POINTS);
@@ -225,14 +275,16 @@ pub fn cut_everywhere() -> impl Iterator<Item = Vec<u8>> {
 /// Texts about as deep as may be, with a byte that the lexer refuses behind each token.
 pub fn deep_and_spoilt() -> impl Iterator<Item = Vec<u8>> {
     let texts = [DEEPEST, DEEPEST + 1].into_iter().flat_map(deep_texts);
-    let taken = texts.filter(|text| lex(text).is_some());
+    let dollars = deep_dollars().into_iter().map(|(text, ..)| text);
+    let taken = texts.chain(dollars).filter(|text| lex(text).is_some());
     taken.flat_map(|text| put_behind_each(&pieces_of(&text), b"\x0c"))
 }
 
-/// Each whole text at the end of a text so long that the most tokens end at each of its tokens; and
-/// with a byte that the lexer refuses about there.
+/// Each whole text, and some with a `$` alone, at the end of a text so long that the most tokens end
+/// at each of its tokens; and with a byte that the lexer refuses about there.
 pub fn about_most_tokens() -> impl Iterator<Item = Vec<u8>> {
-    WHOLE.iter().flat_map(|text| {
+    let dollars = [EMPTY_CONSTANTS, "(extern const $ T)", "(extractor (P) $)"];
+    WHOLE.iter().copied().chain(dollars).flat_map(|text| {
         let pieces = pieces_of(text);
         let each = |within: usize| ends_within(&pieces, within);
         (0..=pieces.len() + 1).flat_map(each).collect::<Vec<_>>()

@@ -5,7 +5,6 @@ use crate::{Counts, library};
 use differential::expansion::{Opened, open_answer};
 use differential::generate::Random;
 use differential::generate_lists::*;
-use differential::hand;
 use differential::hand_lists::*;
 use differential::judge_lists::*;
 use differential::outputs::*;
@@ -24,7 +23,7 @@ pub fn compare(random: &mut Random, count: u64) -> Result<String, String> {
         compare_on_small_stack(&text, &mut counts)?;
     }
     compare_limits(&mut counts)?;
-    for text in hand::WHOLE {
+    for text in whole_texts().into_iter().chain([EMPTY_EXTERN]) {
         compare_every_change(&format!("{text}(rule n 0 x e)"), &mut counts)?;
     }
     for _ in 0..count {

@@ -14,6 +14,7 @@ pub fn compare(random: &mut Random, count: u64) -> Result<String, String> {
     compare_cases(&mut counts)?;
     let texts = spoilt_everywhere()
         .chain(damaged_and_spoilt())
+        .chain(dollar_everywhere())
         .chain(cut_everywhere())
         .chain(deep_and_spoilt())
         .chain(about_most_tokens())

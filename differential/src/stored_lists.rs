@@ -4,7 +4,6 @@ use crate::stored::Stored;
 use differential::expansion::{Opened, open_answer};
 use differential::generate::Random;
 use differential::generate_lists::*;
-use differential::hand;
 use differential::hand_lists::*;
 use differential::judge_lists::*;
 use differential::records::*;
@@ -126,7 +125,7 @@ fn every_record_damaged(stored: &mut Stored, random: &mut Random) -> Result<(), 
         [0, 1, 0],
         [0, 0, 1],
     ];
-    for text in hand::WHOLE {
+    for text in whole_texts() {
         let text = format!("{text}(rule n 0 x e)");
         let Some((lists, outcome)) = judge_opening(random, &text)? else {
             return Err(format!("a whole text that the crate refuses: {text}"));

@@ -68,7 +68,21 @@ fn check_examples() -> Result<(), String> {
             return Err(format!("example of 01: {text}: {outcome:?}"));
         }
     }
+    check_dollars()?;
     check_sheet()
+}
+
+/// The cases of a `$` alone have the refusals and places that are written out.
+fn check_dollars() -> Result<(), String> {
+    for (text, number, place) in hand::dollars() {
+        let lent = lex(&text).ok_or("a case that the lexer refuses")?;
+        let outcome = judge(&lent)?;
+        let found = outcome.as_ref().err();
+        if found.map_or((0, 0), |refusal| (refusal.number, refusal.place)) != (number, place) {
+            return Err(format!("a `$` alone: {text}: {outcome:?}"));
+        }
+    }
+    Ok(())
 }
 
 /// The record list that 01 gives in full.
@@ -97,6 +111,9 @@ fn hand_written(stored: &mut Stored) -> Result<(), String> {
     }
     for text in hand::WHOLE.iter().chain(hand::POINTS) {
         add_text(stored, text)?;
+    }
+    for (text, ..) in hand::dollars() {
+        add_text(stored, &text)?;
     }
     for text in hand::integer_texts() {
         add_text(stored, &text)?;
