@@ -24,7 +24,7 @@ use Rattle.grammar.specs.Lexical.{identifier}
 use Rattle.grammar.specs.Grammar.{named, unranked, definition, pattern, list}
 use Rattle.grammar.specs.Nesting.{Begins, b-definitions, b-rule, b-left, Nested, Deep, inside}
 use Rattle.grammar.specs.Meaning.{Derived, Refused, Meaning, Worth, Exactly}
-use Rattle.grammar.specs.Examples.{accepted, tree, refused, bound}
+use Rattle.grammar.specs.Examples.{accepted, tree, refused, alone, constant, constant-tree, bound}
 use Rattle.grammar.proofs.Exact.{Ground, deep, plain}
 use Rattle.grammar.proofs.Lexemes.{opens, symbols, integers, words}
 use Rattle.grammar.proofs.Rows.{no-items}
@@ -33,25 +33,50 @@ use Rattle.grammar.proofs.Theorem.{exact, meaning, worth}
 use Rattle.grammar.proofs.Places.{placed, one-refusal}
 use Rattle.grammar.proofs.Exactly.{exactly, refusal-within}
 
+-- all that reading tokens computes with
+unfoldable computed : Unit {0}
+unfolding tok sym id be8 be4 wordAt halfAt sameBytes spelled _⧺_ count records recordsAll tokenAt isLparen isRparen isSymbol isInt isAt isConst isWord letter starts goesOn allGoOn identRefusal ascii goodSymbol goodValue goodWords goodToken badFrom before andThen _⊳_ nodeOf parent flagged bare leaf nothing refuseFrom refuseAfter ifNext ifSecond thenAt itemsFrom manyAt many unexpected expectAt ate eat identAt nameBy parseIdent constRefusal parseConst refusedAs compound patternIn parsePattern parseLetdef letInside parseExprInnerParens exprIn parseExpr parseIflet parseIfletIf parseIfletOrExpr noIflet parseStructField parseStructFields parseTupleField parseTupleFields parseFields parseTypeVariant parseTypevalue modifierFlags modifiersEnd parseModifiers parseType declFlags declModifiers declNames parseDecl parseExtern ruleName isI64 rulePriority ruleFlags ruleParts parseRule restDef parseDef parseDefs fitted judged reading
+computed = tt
+
 -- the tree of `(rule (A x) y)` comes out
 read : reading accepted 16 ≡ done tree
-unfolding accepted tree tok sym id be8 be4 wordAt halfAt sameBytes spelled _⧺_ count records recordsAll tokenAt isLparen isRparen isSymbol isInt isAt isConst isWord letter starts goesOn allGoOn identRefusal ascii goodSymbol goodValue goodWords goodToken badFrom before andThen _⊳_ nodeOf parent flagged bare leaf nothing refuseFrom refuseAfter ifNext ifSecond thenAt itemsFrom manyAt many unexpected expectAt ate eat identAt nameBy parseIdent constRefusal parseConst refusedAs compound patternIn parsePattern parseLetdef letInside parseExprInnerParens exprIn parseExpr parseIflet parseIfletIf parseIfletOrExpr noIflet parseStructField parseStructFields parseTupleField parseTupleFields parseFields parseTypeVariant parseTypevalue modifierFlags modifiersEnd parseModifiers parseType declFlags declModifiers declNames parseDecl parseExtern ruleName isI64 rulePriority ruleFlags ruleParts parseRule restDef parseDef parseDefs fitted judged reading
+unfolding accepted tree computed
 read = refl
 
 pub derived : Derived accepted tree
 derived = exact accepted 16 tree .0 read .0
 
+-- what is refused with any space is not derived
+underived-at : (s : Input) (code place : ℕ) → ((space : ℕ) → reading s space ≡ stopped code place) → (ts : Trees) → Derived s ts → ⊥
+underived-at s code place e ts d =
+    let n = length (recordsAll ts) in
+    let a = exact s n ts .1 (d, omega arith) in
+    let b = e n in
+    let z : _≡_ {A = ℕ} 0 1 = cc in omega arith
+
 -- `(rule 5 x)` has none
 stops : (space : ℕ) → reading refused space ≡ stopped 26 9
-unfolding refused tok sym id be8 be4 wordAt halfAt sameBytes spelled _⧺_ count records recordsAll tokenAt isLparen isRparen isSymbol isInt isAt isConst isWord letter starts goesOn allGoOn identRefusal ascii goodSymbol goodValue goodWords goodToken badFrom before andThen _⊳_ nodeOf parent flagged bare leaf nothing refuseFrom refuseAfter ifNext ifSecond thenAt itemsFrom manyAt many unexpected expectAt ate eat identAt nameBy parseIdent constRefusal parseConst refusedAs compound patternIn parsePattern parseLetdef letInside parseExprInnerParens exprIn parseExpr parseIflet parseIfletIf parseIfletOrExpr noIflet parseStructField parseStructFields parseTupleField parseTupleFields parseFields parseTypeVariant parseTypevalue modifierFlags modifiersEnd parseModifiers parseType declFlags declModifiers declNames parseDecl parseExtern ruleName isI64 rulePriority ruleFlags ruleParts parseRule restDef parseDef parseDefs fitted judged reading
+unfolding refused computed
 stops space = refl
 
 pub underived : (ts : Trees) → Derived refused ts → ⊥
-underived ts d =
-    let n = length (recordsAll ts) in
-    let a = exact refused n ts .1 (d, omega arith) in
-    let b = stops n in
-    let z : _≡_ {A = ℕ} 0 1 = cc in omega arith
+underived = underived-at refused 26 9 stops
+
+-- nor has `(extern const $ T)`: 16 at the `$`
+stops-alone : (space : ℕ) → reading alone space ≡ stopped 16 14
+unfolding alone computed
+stops-alone space = refl
+
+pub alone-underived : (ts : Trees) → Derived alone ts → ⊥
+alone-underived = underived-at alone 16 14 stops-alone
+
+-- `(extern const $a T)` has
+read-constant : reading constant 16 ≡ done constant-tree
+unfolding constant constant-tree computed
+read-constant = refl
+
+pub constant-derived : Derived constant constant-tree
+constant-derived = exact constant 16 constant-tree .0 read-constant .0
 
 -- ---- what a refusal is worth
 
@@ -95,7 +120,7 @@ accepted-exactly n = exactly accepted-end (rw read at (worth accepted 16 n))
 
 -- with depth 2, `x@(A y)` is refused at the `y`, and that stands two levels in
 met : parsePattern bound 2 3 ≡ refuse (refusal 8 13 7)
-unfolding bound tok sym id be8 be4 wordAt halfAt sameBytes spelled _⧺_ count records recordsAll tokenAt isLparen isRparen isSymbol isInt isAt isConst isWord letter starts goesOn allGoOn identRefusal ascii goodSymbol goodValue goodWords goodToken badFrom before andThen _⊳_ nodeOf parent flagged bare leaf nothing refuseFrom refuseAfter ifNext ifSecond thenAt itemsFrom manyAt many unexpected expectAt ate eat identAt nameBy parseIdent constRefusal parseConst refusedAs compound patternIn parsePattern parseLetdef letInside parseExprInnerParens exprIn parseExpr parseIflet parseIfletIf parseIfletOrExpr noIflet parseStructField parseStructFields parseTupleField parseTupleFields parseFields parseTypeVariant parseTypevalue modifierFlags modifiersEnd parseModifiers parseType declFlags declModifiers declNames parseDecl parseExtern ruleName isI64 rulePriority ruleFlags ruleParts parseRule restDef parseDef parseDefs fitted judged reading
+unfolding bound computed
 met = refl
 
 pub two-in : (k : ℕ) × Nested bound pattern 2 3 k × (13 ≡ posAt bound k)
@@ -107,7 +132,7 @@ two-in = go (exact-pattern bound 2 .ground 3 (refusal 8 13 7) met)
 
 -- the `x` begins the rule's pattern, so the `y` is inside two patterns of the list
 begun : Begins bound (list definition) pattern 0 3
-unfolding bound tok sym id be8 be4 wordAt halfAt sameBytes spelled _⧺_ count records recordsAll tokenAt isLparen isRparen isSymbol isInt isAt isConst isWord letter starts goesOn allGoOn identRefusal ascii goodSymbol goodValue goodWords goodToken badFrom before andThen _⊳_ nodeOf parent flagged bare leaf nothing refuseFrom refuseAfter ifNext ifSecond thenAt itemsFrom manyAt many unexpected expectAt ate eat identAt nameBy parseIdent constRefusal parseConst refusedAs compound patternIn parsePattern parseLetdef letInside parseExprInnerParens exprIn parseExpr parseIflet parseIfletIf parseIfletOrExpr noIflet parseStructField parseStructFields parseTupleField parseTupleFields parseFields parseTypeVariant parseTypevalue modifierFlags modifiersEnd parseModifiers parseType declFlags declModifiers declNames parseDecl parseExtern ruleName isI64 rulePriority ruleFlags ruleParts parseRule restDef parseDef parseDefs fitted judged reading
+unfolding bound computed
 begun =
     b-definitions no-items (b-rule (opens bound .at 0 .yes refl) (words bound word-rule .at 1 .yes refl)
     (b-left (named (record { symbol = symbols bound .at 2 .yes refl; obeys = identifier refl refl })) (unranked (integers bound .at 3 .no refl))))

@@ -18,7 +18,7 @@ use Rattle.tokens.specs.Input.{Input, peek, posAt, size}
 use Rattle.tokens.proofs.TokenLaws.{kind-inside}
 use Rattle.steps.specs.declared.Refusal.{Refusal}
 use Rattle.steps.specs.Outcome.{accept, refuse, refusal, unexpected, expect-lparen, expect-rparen, expect-at, expect-word, identAt, nameBy, parseIdent, constRefusal, parseConst, refusedAs}
-use Rattle.steps.proofs.ConstLaws.{is-constant, constant-is}
+use Rattle.steps.proofs.NameLaws.{is-constant, constant-is}
 use Rattle.grammar.specs.Lexical.{Kind, Open, Close, Symbol, Integer, At, Word, spelling, Identifier, identifier, Name, Dollar, Constant, one, nameAt, constantAt}
 use Rattle.grammar.proofs.Exact.{Reach, Exact, Tests, Judges, One, token, exact-expect, clash, same, Ground, plain, no-refusal, same-ground, unexpected-ground}
 

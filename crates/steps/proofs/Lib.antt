@@ -1,5 +1,5 @@
 pub mod StepLaws
-pub mod ConstLaws
+pub mod NameLaws
 pub mod MetLaws
 pub mod SizeLaws
 pub mod RowLaws

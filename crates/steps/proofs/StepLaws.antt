@@ -1,11 +1,10 @@
 -- Laws of single steps, one for each way through their code. Assumes nothing.
-use Prim.Native.Nat.{ℕ, zero, suc, _+_, _-_, _*_, _/_, _%_, _^_, _<_, _≤_}
+use Prim.Native.Nat.{ℕ, _+_, _-_, _^_, _<_, _≤_}
 use native.Mathlib.Omega.{arith}
 use mathlib.Core.Path.{_≡_, refl, sym, ap, subst, _∙_}
 use mathlib.Core.List.{List, [], _∷_}
 use mathlib.Core.Bool.{Bool, true, false, not}
-use lib.ListN.{length, getD, take, drop, drop-of-length-le}
-use lib.Seq.{take-nil}
+use lib.ListN.{length}
 use lib.Dec.{eqb}
 use mir.Syntax.{w64, w16}
 use mir.Val.{Fits}

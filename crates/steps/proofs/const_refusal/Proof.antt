@@ -1,4 +1,4 @@
-use Rattle.steps.proofs.ConstLaws.{const-bad, const-plain, const-alone, const-dollar}
+use Rattle.steps.proofs.NameLaws.{const-bad, const-plain, const-alone, const-dollar}
 use borrow.Author.Needs.{needs}
 use Rattle.steps.proofs.const_refusal.Statement.{statement}
 use Rattle.steps.proofs.const_refusal.Tie as tie

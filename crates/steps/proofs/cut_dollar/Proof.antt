@@ -1,4 +1,4 @@
-use Rattle.steps.proofs.ConstLaws.{const-fits, cut-name, cut-none}
+use Rattle.steps.proofs.NameLaws.{const-fits, cut-name, cut-none}
 use borrow.Author.Needs.{needs}
 use Rattle.steps.proofs.cut_dollar.Statement.{statement}
 use Rattle.steps.proofs.cut_dollar.Tie as tie

@@ -1,5 +1,5 @@
 use Rattle.steps.proofs.StepLaws.{stays, ready-below, other-read, other-other}
-use Rattle.steps.proofs.ConstLaws.{refused-nonempty}
+use Rattle.steps.proofs.NameLaws.{refused-nonempty}
 use borrow.Author.Needs.{needs}
 use Rattle.steps.proofs.parse_name_or.Statement.{statement}
 use Rattle.steps.proofs.parse_name_or.Tie as tie

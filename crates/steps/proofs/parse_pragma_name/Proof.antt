@@ -1,5 +1,5 @@
 use Rattle.steps.proofs.StepLaws.{stays, ready-below, pragma-read, pragma-other}
-use Rattle.steps.proofs.ConstLaws.{pragma-never}
+use Rattle.steps.proofs.NameLaws.{pragma-never}
 use borrow.Author.Needs.{needs}
 use Rattle.steps.proofs.parse_pragma_name.Statement.{statement}
 use Rattle.steps.proofs.parse_pragma_name.Tie as tie

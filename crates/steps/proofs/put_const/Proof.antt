@@ -1,4 +1,4 @@
-use Rattle.steps.proofs.ConstLaws.{cut-nonempty, const-put, const-out}
+use Rattle.steps.proofs.NameLaws.{cut-nonempty, const-put, const-out}
 use borrow.Author.Needs.{needs}
 use Rattle.steps.proofs.put_const.Statement.{statement}
 use Rattle.steps.proofs.put_const.Tie as tie

@@ -1,5 +1,5 @@
 use Rattle.steps.proofs.StepLaws.{name-put}
-use Rattle.steps.proofs.ConstLaws.{identifier-nonempty}
+use Rattle.steps.proofs.NameLaws.{identifier-nonempty}
 use borrow.Author.Needs.{needs}
 use Rattle.steps.proofs.put_name.Statement.{statement}
 use Rattle.steps.proofs.put_name.Tie as tie

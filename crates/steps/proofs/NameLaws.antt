@@ -1,5 +1,5 @@
 -- Names that are read are not empty: identifiers, and constants without their `$`. Assumes nothing.
-use Prim.Native.Nat.{ℕ, zero, suc, _+_, _*_, _/_, _%_, _<_, _≤_}
+use Prim.Native.Nat.{ℕ, zero, suc, _+_, _/_, _%_, _<_, _≤_}
 use native.Mathlib.Omega.{arith}
 use mathlib.Core.Path.{_≡_, refl, sym, ap, _∙_}
 use mathlib.Core.List.{List, [], _∷_}
@@ -9,7 +9,7 @@ use lib.Seq.{take-nil}
 use lib.Dec.{eqb, ltb}
 use mir.Syntax.{w64}
 use mir.Val.{Fits}
-use borrow.Author.Tests.{eq-eqb, ne-eqb, eqb-true, eqb-false, lt-ltb, le-ltb, ltb-true}
+use borrow.Author.Tests.{eq-eqb, ne-eqb, eqb-true, eqb-false, lt-ltb, ltb-true}
 use Rattle.trees.specs.Choice.{pick}
 use Rattle.trees.specs.Names.{spelled, Nonempty}
 use Rattle.trees.proofs.Laws.{spelled-within}
@@ -17,7 +17,7 @@ use Rattle.tokens.specs.Ident.{identRefusal}
 use Rattle.steps.specs.declared.Cut.{Cut}
 use Rattle.steps.specs.declared.Cut.the-variants.{Name, NoName}
 use Rattle.steps.specs.declared.Parsed.{Parsed}
-use Rattle.steps.specs.declared.Parsed.the-variants.{Accepted, Refused}
+use Rattle.steps.specs.declared.Parsed.the-variants.{Refused}
 use Rattle.steps.specs.Outcome.{refusal, refusedAs, pragmaRefusal, identAt, constRefusal}
 use Rattle.steps.specs.Met.{Met, CutTo}
 use Rattle.steps.proofs.StepLaws.{ident-refused}
