@@ -393,7 +393,8 @@ static inline size_t isle_read_text_space(size_t text_length)
 }
 
 /* The records of the definitions that the tokens are. The text is what the symbols stand in; `end` is the
-   position after the last token, which an unexpected end is refused at.
+   position after the last token, which an unexpected end is refused at. No name in what is read is empty: a
+   `$` by itself is no constant (16). A list that is lent to the other entries may have an empty name.
    Refusals: 7, 1, 2; then 8 or 10 to 27, the first from the left; then 6. */
 uint64_t isle_read(const uint8_t *tokens, size_t tokens_length, const uint8_t *text, size_t text_length,
                    uint32_t end, uint8_t *out, size_t out_length);

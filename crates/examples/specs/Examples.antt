@@ -11,17 +11,17 @@ use Rattle.examples.specs.Calls.{Call, isle-read, isle-make-template, is
 
 -- ---- tokens, by their position
 
-abbrev lparen : ℕ → List ℕ
+abbrev pub lparen : ℕ → List ℕ
 lparen p = tok 1 p 0 0
 
-abbrev rparen : ℕ → List ℕ
+abbrev pub rparen : ℕ → List ℕ
 rparen p = tok 2 p 0 0
 
 abbrev int : ℕ → ℕ → List ℕ
 int p n = tok 4 p 0 n
 
 -- a text and its tokens: the end is the text's; with space for 16 records
-abbrev read : String → List ℕ → Call
+abbrev pub read : String → List ℕ → Call
 read s tokens = isle-read tokens (bytes s) (length (bytes s)) 16
 
 -- ---- records: kind, flags, child count, position, both halves of word 1, word 2, as the sheet prints them
@@ -30,10 +30,10 @@ unfoldable pub rec : ℕ → ℕ → ℕ → ℕ → ℕ → ℕ → ℕ → Lis
 rec k f n p a b c = be4 ((k * 256 + f) * 65536 + n) ++ (be4 p ++ (be4 a ++ (be4 b ++ be8 c)))
 
 -- of a kind, with n children; an Ident of n bytes; a variable of a pattern and one of an expression, of one byte; a MacroArg
-abbrev node : ℕ → ℕ → ℕ → List ℕ
+abbrev pub node : ℕ → ℕ → ℕ → List ℕ
 node k n p = rec k 0 n p 0 0 0
 
-abbrev ident : ℕ → ℕ → List ℕ
+abbrev pub ident : ℕ → ℕ → List ℕ
 ident p n = rec Identifier 0 0 p p n 0
 
 abbrev var : ℕ → List ℕ
