@@ -182,7 +182,7 @@ static inline const char *isle_refusal_text(int refusal)
     case ISLE_REFUSAL_EMPTY_IDENTIFIER: return "empty identifier";
     case ISLE_REFUSAL_FIRST_CHARACTER: return "bad first character of an identifier";
     case ISLE_REFUSAL_LATER_CHARACTER: return "bad later character of an identifier";
-    case ISLE_REFUSAL_NOT_A_CONSTANT: return "not a constant, which is $ with a name behind it";
+    case ISLE_REFUSAL_NOT_A_CONSTANT: return "not a constant, which is $ and at least one character more";
     case ISLE_REFUSAL_UNKNOWN_PRAGMA: return "unknown pragma";
     case ISLE_REFUSAL_TYPE_MODIFIER: return "unknown type modifier before this";
     case ISLE_REFUSAL_TYPE_DEFINITION: return "unknown type definition";

@@ -1,8 +1,9 @@
-//! Random texts, damaged texts and damaged token lists through `isle_read`.
+//! Random texts, damaged texts and damaged token lists, and hand-written ones, through `isle_read`.
 
 use crate::{Counts, library};
 use differential::damage::*;
 use differential::generate::*;
+use differential::hand;
 use differential::judge::judge;
 use differential::model;
 use differential::oracle::{Lent, lex};
@@ -12,11 +13,27 @@ use differential::records::*;
 pub fn compare(random: &mut Random, counts: &mut Counts) -> Result<(), String> {
     let lent = any_lent(random);
     let more = 1 + random.below(60);
-    if random.once_in(100) {
-        return compare_cut(random, &lent, more, counts);
+    match random.once_in(100) {
+        true => compare_cut(random, &lent, more, counts),
+        false => compare_lent(&lent, more, counts),
     }
-    let outcome = judge(&lent).map_err(|message| format!("{}\n{message}", shown(&lent)))?;
-    compare_outcome(&lent, &bytes_of(&lent.tokens), &outcome, more, counts)
+}
+
+/// The hand-written texts that the lexer takes, and the hand-written token lists.
+pub fn compare_written(counts: &mut Counts) -> Result<(), String> {
+    let texts = hand::WHOLE.iter().chain(hand::POINTS);
+    let texts = texts.map(|text| text.to_string());
+    let dollars = hand::dollars().map(|(text, ..)| text);
+    let taken = texts.chain(dollars).filter_map(|text| lex(&text));
+    for lent in taken.chain(hand::token_lists()) {
+        compare_lent(&lent, 50, counts)?;
+    }
+    Ok(())
+}
+
+fn compare_lent(lent: &Lent, more: usize, counts: &mut Counts) -> Result<(), String> {
+    let outcome = judge(lent).map_err(|message| format!("{}\n{message}", shown(lent)))?;
+    compare_outcome(lent, &bytes_of(&lent.tokens), &outcome, more, counts)
 }
 
 /// A text that the lexer takes, and in some cases a damaged token list.

@@ -94,6 +94,7 @@ fn compare() -> Result<(), String> {
     for _ in 0..count {
         reading::compare(&mut random, &mut counts)?;
     }
+    reading::compare_written(&mut counts)?;
     limits::compare(&mut counts)?;
     println!("{}", counts.line("isle_read"));
     for line in run_templates::compare(&mut random, count / 4)? {

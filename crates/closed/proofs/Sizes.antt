@@ -10,7 +10,7 @@ use Rattle.trees.proofs.Laws.{count-size}
 use Rattle.records.specs.Slots.{slots, recsFrom, recs, writes}
 use Rattle.records.proofs.BackLaws.{AllSized, bytesAll, length-bytesAll, writes-front, recsFrom-back}
 use Rattle.tokens.specs.Input.{Input}
-use Rattle.closed.specs.Closed.{Named}
+use Rattle.closed.specs.Closed.{NoEmptyName}
 use Rattle.closed.proofs.Lent.{Lent}
 use Rattle.closed.proofs.Rows.{PlainTree, plain, PlainTrees, no-tree, and-tree}
 
@@ -32,17 +32,17 @@ mutual
       let e = length-append (records x) (recordsAll xs) in
       sized-append (records x) (recordsAll xs) (sized-tree p l (omega arith)) (sized-trees q l (omega arith))
 
-named-append : (rs us : List Rec) → Named rs → Named us → Named (rs ++ us)
+named-append : (rs us : List Rec) → NoEmptyName rs → NoEmptyName us → NoEmptyName (rs ++ us)
 named-append [] us p q = q
 named-append (r ∷ rs) us p q = (p .0, named-append rs us (p .1) q)
 
 mutual
   unfolding records
 
-  named-tree : {s : Input} {x : Tree} → PlainTree s x → Named (records x)
+  named-tree : {s : Input} {x : Tree} → PlainTree s x → NoEmptyName (records x)
   named-tree (plain p q) = (λ e. omega (arith, p .named e), named-trees q)
 
-  pub named-trees : {s : Input} {xs : Trees} → PlainTrees s xs → Named (recordsAll xs)
+  pub named-trees : {s : Input} {xs : Trees} → PlainTrees s xs → NoEmptyName (recordsAll xs)
   named-trees no-tree = tt
   named-trees (and-tree {x = x} {xs = xs} p q) = named-append (records x) (recordsAll xs) (named-tree p) (named-trees q)
 

@@ -1,4 +1,5 @@
--- A good token's symbol lies in the text, and so does what is left of a constant without its `$`. Neither is empty. Assumes nothing.
+-- A good token's symbol lies in the text, and so does what is left of a constant without its `$`. A name is not empty, nor is what is
+-- left of a constant. Assumes nothing.
 use Prim.Native.Nat.{ℕ, _+_, _/_, _%_, _≤_, _<_}
 use native.Mathlib.Omega.{arith}
 use mathlib.Core.Path.{_≡_}

@@ -17,7 +17,7 @@ use Rattle.forms.proofs.Exact.{complete}
 use Rattle.forms.proofs.SkipLaws.{macroArg-agrees}
 use Rattle.forms.proofs.DepthLaws.{deep-agrees}
 use Rattle.forms.proofs.FirstLaws.{length-kindsAll, length-depthsAll}
-use Rattle.closed.specs.Closed.{Taken, Named, kept, Closed}
+use Rattle.closed.specs.Closed.{Taken, NoEmptyName, kept, Closed}
 use Rattle.closed.proofs.Lent.{Lent}
 use Rattle.closed.proofs.Rows.{Several, several-kinds, several-plain}
 use Rattle.closed.proofs.Depths.{absent-first, plain-trees, shallow-trees}
@@ -40,8 +40,8 @@ taken {s} {ts} d =
       shallow = deep-agrees ts (recordsAll ts) refl ∙ absent-first (shallow-trees ts (length (s .text)) definition [] 0 (several-kinds q) (omega (arith, d .shallow))) ∙ length-depthsAll ts 0;
     }
 
-pub named : {s : Input} {ts : Trees} → Derived s ts → Named (recordsAll ts)
-named d = named-trees (several-plain (definitions d))
+pub no-empty-name : {s : Input} {ts : Trees} → Derived s ts → NoEmptyName (recordsAll ts)
+no-empty-name d = named-trees (several-plain (definitions d))
 
 -- and so of every list that reading accepts
 pub read-taken : (s : Input) (space : ℕ) (ts : Trees) → reading s space ≡ done ts → Taken (length (s .text)) (recordsAll ts)
@@ -64,7 +64,7 @@ kept-again {s} {ts} n d l h = again (recordsAll ts) n (countOf (number (done ts)
 pub accepted-closed : {s : Input} {ts : Trees} (n : ℕ) → Derived s ts → Lent s → length (recordsAll ts) ≤ n / 24 → Closed s (number (done ts)) (bytes n (done ts))
 accepted-closed {s} {ts} n d l h =
     let b = kept-again n d l h in
-    record { trees = ts; derived = d; whole = b .whole; back = b .back; taken = subst (Taken (length (s .text))) (sym (b .back)) (taken d); named = subst Named (sym (b .back)) (named d) }
+    record { trees = ts; derived = d; whole = b .whole; back = b .back; taken = subst (Taken (length (s .text))) (sym (b .back)) (taken d); no-empty-name = subst NoEmptyName (sym (b .back)) (no-empty-name d) }
 
 -- CLOSED: where reading accepts with an output of n bytes, what is lent on is a list that opening takes
 pub closed : (s : Input) (n : ℕ) (ts : Trees) → Lent s → reading s (n / 24) ≡ done ts → Closed s (number (done ts)) (bytes n (done ts))

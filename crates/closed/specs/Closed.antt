@@ -30,21 +30,21 @@ pub record Taken (t : ℕ) (rs : List Rec) : Type 0 where
   pub no-arg : firstMacroArg rs ≡ length rs
   pub shallow : firstDeepIn rs ≡ length rs
 
--- every Ident among the records has a name of at least one byte
-abbrev pub Named : List Rec → Type 0
-Named [] = Unit {0}
-Named (r ∷ rs) = (r .kind ≡ Identifier → Nonempty (r .word1)) × Named rs
+-- the range of every Ident among the records is not empty; where the list is taken, it lies inside the text, so the name has a byte
+abbrev pub NoEmptyName : List Rec → Type 0
+NoEmptyName [] = Unit {0}
+NoEmptyName (r ∷ rs) = (r .kind ≡ Identifier → Nonempty (r .word1)) × NoEmptyName rs
 
 -- the part of an output l that is lent on: as many records as the returned number r counts
 abbrev pub kept : ℕ → List ℕ → List ℕ
 kept r l = take (countOf r * 24) l
 
 -- reading accepted, returned r and left l: the bytes lent on are whole records, those of the trees that the grammar derives, a list that
--- opening takes, and names that are not empty
+-- opening takes, and no name in it is empty
 pub record Closed (s : Input) (r : ℕ) (l : List ℕ) : Type 0 where
   pub trees : Trees
   pub derived : Derived s trees
   pub whole : length (kept r l) % 24 ≡ 0
   pub back : recs (kept r l) ≡ recordsAll trees
   pub taken : Taken (length (s .text)) (recs (kept r l))
-  pub named : Named (recs (kept r l))
+  pub no-empty-name : NoEmptyName (recs (kept r l))

@@ -1,4 +1,4 @@
--- The examples come out as document 01 has them, by computation. Assumes nothing.
+-- The examples come out as documents 01 and 02 have them, by computation. Assumes nothing.
 use mathlib.Core.Path.{_≡_, refl}
 use Rattle.trees.specs.Tree.{_⧺_, count, firsts, others, records, recordsAll, treesOf}
 use Rattle.trees.specs.Names.{spelled}
@@ -33,7 +33,7 @@ use Rattle.opening.specs.Answers.{spaceOf, numberOf, answerOf}
 use Rattle.openings.specs.Calls as opens
 use Rattle.lexer.specs.Quoted.{bytes}
 use Rattle.examples.specs.Calls.{comesTo, filled, meant, said, outcomes, expected}
-use Rattle.examples.specs.Dollars.{stored, P, called, dollars}
+use Rattle.examples.specs.Dollars.{P-source, P, called, dollars}
 use Rattle.examples.specs.Examples.{rec, sheet, text, B, xy, B-made, source, PQ, Qz, PQ-opened, Qz-opened, table}
 
 -- all that the calls compute with
@@ -47,5 +47,5 @@ as-written = refl
 
 -- and a `$` by itself as document 02 has it
 pub dollars-as-written : outcomes dollars ≡ expected dollars
-unfolding sheet stored P called dollars computed
+unfolding sheet P-source P called dollars computed
 dollars-as-written = refl

@@ -1,4 +1,4 @@
--- Calls of the four entries, what they come to by the definitions that the clauses `answer` of the entries cite, and what document 01 says of them.
+-- Calls of the four entries, what they come to by the definitions that the clauses `answer` of the entries cite, and what the documents say of them.
 use Prim.Native.Nat.{ℕ, _-_, _*_}
 use mathlib.Core.List.{List, [], _∷_, _++_}
 use lib.ListN.{length, replicate}

@@ -1,5 +1,5 @@
 -- A `$` by itself (document 02, note 7): reading refuses it where a constant stands, and takes it as a name. Lent lists may still have the
--- constant with an empty name that it was read as before.
+-- constant with an empty name that the crate makes of it.
 use Prim.Native.Nat.{ℕ, _+_}
 use mathlib.Core.List.{List, [], _∷_, _++_}
 use Rattle.trees.specs.Ast.{Extern·Const, Extractor, Rule, Identifier, Pattern·ConstPrim, Pattern·Term, Expr·ConstPrim}
@@ -8,16 +8,16 @@ use Rattle.lexer.specs.Quoted.{bytes}
 use Rattle.examples.specs.Calls.{isle-make-template, isle-substitute, isle-open, _at_, accepts, Case, _gives_}
 use Rattle.examples.specs.Examples.{lparen, rparen, read, rec, node, ident, sheet}
 
--- what is left of a constant of n bytes and a `$` at p; the constant in a pattern
+-- the Ident of a constant whose `$` stands at p with n bytes behind it; the constant in a pattern
 abbrev cut : ℕ → ℕ → List ℕ
 cut p n = rec Identifier 0 0 p (p + 1) n 0
 
 abbrev constant : ℕ → ℕ → List ℕ
 constant p n = node Pattern·ConstPrim 1 p ++ cut p n
 
--- `(extractor (P) $) (P)`: the definition as it was read before, and the pattern
-unfoldable pub stored : List ℕ
-stored = bytes "(extractor (P) $) (P)"
+-- `(extractor (P) $) (P)`: the definition as the crate reads it, and the pattern
+unfoldable pub P-source : List ℕ
+P-source = bytes "(extractor (P) $) (P)"
 
 unfoldable pub P : List ℕ
 P = node Extractor 2 11 ++ ident 12 1 ++ constant 15 0
@@ -40,5 +40,5 @@ dollars =
     -- lent lists: the pattern is its own template, and is left as it is; the call opens to it
     ∷ (isle-make-template (bytes "$") (constant 0 0) [] 2 gives accepts 2 [] (constant 0 0))
     ∷ (isle-substitute (bytes "$") (constant 0 0) [] 2 gives accepts 2 [] (constant 0 0))
-    ∷ (isle-open stored P called 2 2 gives accepts 2 (constant 15 0) (constant 15 0))
+    ∷ (isle-open P-source P called 2 2 gives accepts 2 (constant 15 0) (constant 15 0))
     ∷ []

@@ -1,4 +1,4 @@
--- Worked cases for patterns, expressions and if-lets, from document 01 and the branches of parser.rs.
+-- Worked cases for patterns, expressions and if-lets, from documents 01 and 02 and the branches of parser.rs.
 use Prim.Native.Nat.{ℕ, _+_, _*_}
 use mathlib.Core.List.{List, [], _∷_, _++_}
 use Rattle.trees.specs.Tree.{Tree, Trees, node, ∅, _▸_, head}

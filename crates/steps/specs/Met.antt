@@ -130,8 +130,8 @@ unfoldable pub Flags : (ℕ → ℕ) → Parsed → ℕ → Type 0
 Flags flags (Accepted i n k) x = x ≡ flags i
 Flags flags (Refused e) x = Unit {0}
 
--- what cutting off the `$` of a symbol of this range comes to, where c is its refusal as a constant: the name that is left starts one later, is one shorter
--- and is not empty
+-- what cutting off the `$` of a symbol of this range comes to, where c is its refusal as a constant, 0 for none: the name that is left starts one later,
+-- is one shorter and is not empty
 unfoldable pub CutTo : ℕ → ℕ → Cut → Type 0
 CutTo range c (Name w) = (c ≡ 0) × (w ≡ range + 4294967295) × Nonempty w
 CutTo range c (NoName d) = (d ≡ c) × (c ≡ 0 → ⊥)

@@ -1,5 +1,5 @@
 -- Readers: what reading a part comes to, from the index of the next token, and how readers are put together.
--- Each function of parser.rs is such a reader, under its name.
+-- Each function of parser.rs is such a reader, under its name. A `$` alone is no constant here, as document 02 has it.
 use Prim.Native.Nat.{ℕ, zero, suc, _+_}
 use mathlib.Core.List.{List, [], _∷_}
 use mathlib.Core.Bool.{Bool, true, false, _&&_}

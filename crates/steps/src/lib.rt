@@ -256,7 +256,8 @@ enum Cut {
     NoName(u8),
 }
 
-// What the Rust does with strip_prefix: the `$` of a symbol of this range is cut off. What is left starts one later, is one shorter, and is not empty.
+// strip_prefix of the Rust, once the name is judged: the `$` of a symbol of this range is cut off, and what is left starts one later and is one shorter.
+// Other than there, a `$` alone is refused, so what is left is not empty.
 fn cut_dollar(text: &[u8], range: u64) -> Cut
     requires { ⌜ length (now text) ≤ 65536 ⌝ }
     ensures { λ r. ⌜ CutTo range (constRefusal (spelled (now (text .entry)) range)) r ⌝ }
@@ -599,7 +600,7 @@ pub fn const_node_of(
     close_of(tokens, end, out, p, kind, 0, q, t)
 }
 
-// An identifier, refused with `code` where it is none.
+// An identifier, refused with `code`, which is not 0, where it is none.
 pub fn parse_name_or(
     tokens: &[u8],
     text: &[u8],

@@ -13,7 +13,7 @@ use Rattle.parser.specs.Reading as left
 use Rattle.parser.specs.Reading.{done, stopped, number, reading}
 use Rattle.lexer.specs.Quoted.{bytes}
 use Rattle.texts.specs.TextReading.{tokenInput, textReading}
-use Rattle.closed.specs.Closed.{Named, kept}
+use Rattle.closed.specs.Closed.{NoEmptyName, kept}
 use Rattle.text_grammar.specs.TextMeaning.{TextDerived, TextAccepted, BadToken, FirstHigh, TextRefused, TextMeaning, TextTooLong, TextClosed}
 use Rattle.text_grammar.proofs.Theorem.{meaning, worth}
 use Rattle.text_grammar.proofs.Exactly.{forty, exactly, closed}
@@ -111,5 +111,5 @@ accepts = refl
 pub constant-closed : TextClosed constant (number (textReading constant 3)) (left.bytes 72 (textReading constant 3))
 constant-closed = closed (worth constant 3 72) accepts
 
-pub constant-named : Named (recs (kept (number (textReading constant 3)) (left.bytes 72 (textReading constant 3))))
-constant-named = constant-closed .closed .named
+pub constant-named : NoEmptyName (recs (kept (number (textReading constant 3)) (left.bytes 72 (textReading constant 3))))
+constant-named = constant-closed .closed .no-empty-name
