@@ -10,6 +10,7 @@ use borrow.Author.Tests.{le-leb, lt-ltb, eq-eqb}
 use Rattle.trees.specs.Tree.{Tree, Trees, ∅, _▸_, _⧺_, head}
 use Rattle.trees.specs.Ast as ast
 use Rattle.trees.specs.Names.{Nonempty}
+use Rattle.trees.proofs.Laws.{rest-nonempty}
 use Rattle.tokens.specs.Input.{Input, peek, posAt, size}
 use Rattle.grammar.specs.Lexical.{Name, Constant, nameAt, constantAt, typeAt, treeAt}
 use Rattle.grammar.specs.Grammar.{Optional, given, left, Modifiers, no-more, an-extern, a-nodebug, RuleName, named, unnamed, RulePriority, ranked, unranked, Part, definition, typedef, typevalue, variant, fields, field, decl, attr, attribute, extern, extractor, rule, iflet, converter, pattern, expression, letdef, name, types, list, Gram, empty, cons, d-type, d-decl, d-attr, d-extern, d-extractor, d-rule, d-convert, t-type, v-primitive, v-enum, v-struct, w-plain, w-fields, f-unit, f-struct, f-tuple, f-field, f-end, f-type, c-decl, n-name, a-attr, a-chain, a-priority, a-tag, x-constructor, x-extractor, x-const, x-template, r-rule, i-let, i-if, k-convert, p-integer, p-constant, p-wildcard, p-true, p-false, p-var, p-bind, p-and, p-term, e-integer, e-constant, e-true, e-false, e-var, e-let, e-term, l-def}
@@ -22,7 +23,7 @@ use Rattle.forms.specs.Forms.{placed, one, leading, positionOk, wordsOk}
 use Rattle.closed.proofs.Rows as made
 use Rattle.closed.proofs.Rows.{Narrow, Fits, Row, end, next, Several, Run, stop, step, row-then, one-more, several-more, in-place, headed, fits-fixed, fits-spread, fits-last}
 use Rattle.closed.proofs.Lent.{Lent}
-use Rattle.closed.proofs.Symbols.{Inside, inside, name-nonempty, cut-nonempty, cut-inside}
+use Rattle.closed.proofs.Symbols.{Inside, inside, name-nonempty, cut-inside}
 use Rattle.closed.proofs.Widths.{low-range, at, bare, both-words}
 
 -- ---- what trees a part has
@@ -94,7 +95,7 @@ module _ {s : Input} (g : GoodList s) where
   named-fits {i} h = ident i _ (inside g (h .symbol)) (name-nonempty (s .text) _ (h .obeys))
 
   constant-fits : {i : ℕ} → Constant s i → Fits s kinds.name (constantAt s i)
-  constant-fits {i} h = ident i _ (cut-inside (s .text) (peek s i .word1) (h .longer) (inside g (h .named .symbol))) (cut-nonempty (s .text) (peek s i .word1) (h .longer))
+  constant-fits {i} h = ident i _ (cut-inside (s .text) (peek s i .word1) (h .longer) (inside g (h .named .symbol))) (rest-nonempty (s .text) (peek s i .word1) (h .longer))
 
   type-fits : {i : ℕ} (n : ℕ) → n ≤ i → Name s i → Fits s (placed kinds.tuple-field n) (typeAt s i n)
   unfolding headed rowFor find rows placed positionOk wordsOk leading one _and_

@@ -2,49 +2,38 @@
 use Prim.Native.Nat.{ℕ, _*_, _/_, _%_, _≤_}
 use native.Mathlib.Omega.{arith}
 use mathlib.Core.Path.{_≡_, refl, ap, sym, _∙_}
-use mathlib.Core.List.{List, [], _∷_, _++_, append-nil}
+use mathlib.Core.List.{List, [], append-nil}
 use lib.ListN.{length, length-append, length-replicate, take, replicate}
 use Rattle.trees.specs.declared.Rec.{Rec}
-use Rattle.trees.specs.Tree.{Tree, Trees, count, records, recordsAll}
-use Rattle.trees.proofs.Laws.{count-size}
+use Rattle.trees.specs.declared.Head.{Head}
+use Rattle.trees.specs.Tree.{Tree, Trees, count, recordOf, records, recordsAll, AllRecords}
+use Rattle.trees.proofs.Laws.{count-size, all-append}
 use Rattle.records.specs.Slots.{slots, recsFrom, recs, writes}
-use Rattle.records.proofs.BackLaws.{AllSized, bytesAll, length-bytesAll, writes-front, recsFrom-back}
+use Rattle.records.proofs.BackLaws.{Sized, AllSized, bytesAll, length-bytesAll, writes-front, recsFrom-back}
 use Rattle.tokens.specs.Input.{Input}
-use Rattle.closed.specs.Closed.{NoEmptyName}
+use Rattle.closed.specs.Closed.{HasName, NoEmptyName}
 use Rattle.closed.proofs.Lent.{Lent}
-use Rattle.closed.proofs.Rows.{PlainTree, plain, PlainTrees, no-tree, and-tree}
+use Rattle.closed.proofs.Rows.{Plain, PlainTree, plain, PlainTrees, no-tree, and-tree}
 
-sized-append : (rs us : List Rec) → AllSized rs → AllSized us → AllSized (rs ++ us)
-sized-append [] us p q = q
-sized-append (r ∷ rs) us p q = (p .0, sized-append rs us (p .1) q)
+-- what holds of a record that has few children and a plain head, holds of all records of plain trees
+module _ {s : Input} (P : Rec → Type 0) (f : (h : Head) (n : ℕ) → Plain s h → n ≤ 65535 → P (recordOf h n)) where
+  mutual
+    unfolding records
 
-mutual
-  unfolding records
+    all-tree : {x : Tree} → PlainTree s x → length (records x) ≤ 65535 → AllRecords P (records x)
+    all-tree (plain {h = h} {ts = ts} p q) b = (f h (count ts) p (omega (arith, count-size ts)), all-trees q (omega arith))
 
-  sized-tree : {s : Input} {x : Tree} → PlainTree s x → Lent s → length (records x) ≤ 65535 → AllSized (records x)
-  sized-tree (plain {ts = ts} p q) l b =
-      let n = p .narrow l in
-      (record { kind = p .kind; flags = p .flags; count = omega (arith, count-size ts); pos = n .pos; word1 = n .word1; word2 = n .word2 }, sized-trees q l (omega arith))
+    all-trees : {xs : Trees} → PlainTrees s xs → length (recordsAll xs) ≤ 65535 → AllRecords P (recordsAll xs)
+    all-trees no-tree b = tt
+    all-trees (and-tree {x = x} {xs = xs} p q) b =
+        let e = length-append (records x) (recordsAll xs) in
+        all-append P (records x) (recordsAll xs) (all-tree p (omega arith)) (all-trees q (omega arith))
 
-  pub sized-trees : {s : Input} {xs : Trees} → PlainTrees s xs → Lent s → length (recordsAll xs) ≤ 65535 → AllSized (recordsAll xs)
-  sized-trees no-tree l b = tt
-  sized-trees (and-tree {x = x} {xs = xs} p q) l b =
-      let e = length-append (records x) (recordsAll xs) in
-      sized-append (records x) (recordsAll xs) (sized-tree p l (omega arith)) (sized-trees q l (omega arith))
+pub sized-trees : {s : Input} {xs : Trees} → PlainTrees s xs → Lent s → length (recordsAll xs) ≤ 65535 → AllSized (recordsAll xs)
+sized-trees q l b = all-trees Sized (λ h n p c. let w = p .narrow l in record { kind = p .kind; flags = p .flags; count = omega arith; pos = w .pos; word1 = w .word1; word2 = w .word2 }) q b
 
-named-append : (rs us : List Rec) → NoEmptyName rs → NoEmptyName us → NoEmptyName (rs ++ us)
-named-append [] us p q = q
-named-append (r ∷ rs) us p q = (p .0, named-append rs us (p .1) q)
-
-mutual
-  unfolding records
-
-  named-tree : {s : Input} {x : Tree} → PlainTree s x → NoEmptyName (records x)
-  named-tree (plain p q) = (λ e. omega (arith, p .named e), named-trees q)
-
-  pub named-trees : {s : Input} {xs : Trees} → PlainTrees s xs → NoEmptyName (recordsAll xs)
-  named-trees no-tree = tt
-  named-trees (and-tree {x = x} {xs = xs} p q) = named-append (records x) (recordsAll xs) (named-tree p) (named-trees q)
+pub named-trees : {s : Input} {xs : Trees} → PlainTrees s xs → length (recordsAll xs) ≤ 65535 → NoEmptyName (recordsAll xs)
+named-trees q b = all-trees HasName (λ h n p c e. omega (arith, p .named e)) q b
 
 -- the bytes of records alone, read as records
 recs-bytes : (rs : List Rec) → AllSized rs → recs (bytesAll rs) ≡ rs

@@ -8,8 +8,8 @@ use mathlib.Core.List.{List}
 use lib.ListN.{length}
 use lib.Dec.{eqb, ltb}
 use borrow.Author.Tests.{lt-ltb, ltb-false}
-use Rattle.trees.specs.Names.{spelled, Nonempty}
-use Rattle.trees.proofs.Laws.{spelled-within}
+use Rattle.trees.specs.Names.{spelled, Nonempty, withoutFirst}
+use Rattle.trees.proofs.Laws.{spelled-within, spelled-nonempty}
 use Rattle.tokens.specs.Token.{tokenAt}
 use Rattle.tokens.specs.Lent.{goodSymbol, goodValue, goodWords, goodToken}
 use Rattle.tokens.specs.Input.{Input, peek, size}
@@ -50,12 +50,7 @@ not-empty : {b : List ℕ} → Identifier b → 0 < length b
 not-empty (identifier p q) = omega arith
 
 pub name-nonempty : (text : List ℕ) (a : ℕ) → Identifier (spelled text a) → Nonempty a
-name-nonempty text a d = omega (arith, not-empty d, spelled-within text a)
+name-nonempty text a d = spelled-nonempty text a (not-empty d)
 
--- what a constant's own terminal says of its bytes
-module _ (text : List ℕ) (a : ℕ) (l : 1 < length (spelled text a)) where
-  pub cut-nonempty : Nonempty (a + 4294967295)
-  cut-nonempty = omega (arith, l, spelled-within text a)
-
-  pub cut-inside : Inside (length text) a → Inside (length text) (a + 4294967295)
-  cut-inside h = omega (arith, l, h, spelled-within text a)
+pub cut-inside : (text : List ℕ) (a : ℕ) → 1 < length (spelled text a) → Inside (length text) a → Inside (length text) (withoutFirst a)
+cut-inside text a l h = omega (arith, l, h, spelled-within text a)

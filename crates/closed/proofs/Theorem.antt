@@ -28,12 +28,15 @@ definitions : {s : Input} {ts : Trees} → Derived s ts → Several s definition
 unfolding manner listed Holds
 definitions d = parts (d .list-good) (d .derives)
 
+few-records : {s : Input} {ts : Trees} → Derived s ts → length (recordsAll ts) ≤ 65535
+few-records {s} {ts} d = omega (arith, three s ts (d .derives), d .list-good .limited .few)
+
 -- of every list that the grammar derives
 pub taken : {s : Input} {ts : Trees} → Derived s ts → Taken (length (s .text)) (recordsAll ts)
 taken {s} {ts} d =
     let q = definitions d in
     record {
-      few = omega (arith, three s ts (d .derives), d .list-good .limited .few);
+      few = omega (arith, few-records d);
       short = d .list-good .limited .short;
       fits = complete ts (length (s .text)) definition [] (several-kinds q);
       no-arg = macroArg-agrees ts (recordsAll ts) refl ∙ absent-first (plain-trees (several-plain q)) ∙ length-kindsAll ts;
@@ -41,7 +44,7 @@ taken {s} {ts} d =
     }
 
 pub no-empty-name : {s : Input} {ts : Trees} → Derived s ts → NoEmptyName (recordsAll ts)
-no-empty-name d = named-trees (several-plain (definitions d))
+no-empty-name {s} {ts} d = named-trees (several-plain (definitions d)) (few-records d)
 
 -- and so of every list that reading accepts
 pub read-taken : (s : Input) (space : ℕ) (ts : Trees) → reading s space ≡ done ts → Taken (length (s .text)) (recordsAll ts)
@@ -50,7 +53,7 @@ read-taken s space ts e = taken (exact s space ts .0 e .0)
 -- ---- the same of the bytes
 
 pub sized : {s : Input} {ts : Trees} → Derived s ts → Lent s → AllSized (recordsAll ts)
-sized {s} {ts} d l = sized-trees (several-plain (definitions d)) l (omega (arith, three s ts (d .derives), d .list-good .limited .few))
+sized d l = sized-trees (several-plain (definitions d)) l (few-records d)
 
 -- the count that is returned is that of the records
 counted : {s : Input} {ts : Trees} → Derived s ts → countOf (number (done ts)) ≡ length (recordsAll ts)

@@ -4,10 +4,10 @@
 use Prim.Native.Nat.{ℕ, _*_, _%_, _≤_}
 use mathlib.Core.Path.{_≡_}
 use mathlib.Core.Bool.{true}
-use mathlib.Core.List.{List, [], _∷_}
+use mathlib.Core.List.{List}
 use lib.ListN.{length, take}
 use Rattle.trees.specs.declared.Rec.{Rec}
-use Rattle.trees.specs.Tree.{Trees, recordsAll}
+use Rattle.trees.specs.Tree.{Trees, recordsAll, AllRecords}
 use Rattle.trees.specs.Ast.{Identifier}
 use Rattle.trees.specs.Names.{Nonempty}
 use Rattle.records.specs.Slots.{recs}
@@ -31,9 +31,11 @@ pub record Taken (t : ℕ) (rs : List Rec) : Type 0 where
   pub shallow : firstDeepIn rs ≡ length rs
 
 -- the range of every Ident among the records is not empty; where the list is taken, it lies inside the text, so the name has a byte
+abbrev pub HasName : Rec → Type 0
+HasName r = r .kind ≡ Identifier → Nonempty (r .word1)
+
 abbrev pub NoEmptyName : List Rec → Type 0
-NoEmptyName [] = Unit {0}
-NoEmptyName (r ∷ rs) = (r .kind ≡ Identifier → Nonempty (r .word1)) × NoEmptyName rs
+NoEmptyName rs = AllRecords HasName rs
 
 -- the part of an output l that is lent on: as many records as the returned number r counts
 abbrev pub kept : ℕ → List ℕ → List ℕ

@@ -7,6 +7,7 @@ use mathlib.Core.Bool.{Bool, true, false, _&&_}
 use lib.ListN.{length, getD}
 use lib.Dec.{eqb, ltb}
 use borrow.Author.Tests.{eqb-true, eqb-false, eq-eqb}
+use Rattle.trees.specs.Names.{withoutFirst}
 use Rattle.trees.specs.Choice.{pick, choose}
 use Rattle.trees.specs.Tree.{Trees, ∅}
 use Rattle.trees.specs.Ast.{Ident}
@@ -213,7 +214,7 @@ const-names s =
 
 pub constant : (s : Input) {D : Reach} → Exact s D (parseConst s) (One (Constant s) (λ i. one (constantAt s i)))
 unfolding parseConst
-constant s = exact-name (λ w. w + 4294967295) (const-names s)
+constant s = exact-name withoutFirst (const-names s)
 
 refused-zero : (b : List ℕ) → refusedAs 23 b ≡ 0 → identRefusal b ≡ 0
 unfolding refusedAs

@@ -6,7 +6,7 @@ use mathlib.Core.Bool.{true}
 use lib.ListN.{length, getD}
 use Rattle.trees.specs.Tree.{Tree, Trees, node, ∅, _▸_, head}
 use Rattle.trees.specs.Ast as ast
-use Rattle.trees.specs.Names.{spelled}
+use Rattle.trees.specs.Names.{spelled, withoutFirst}
 use Rattle.tokens.specs.Ident.{starts, allGoOn}
 use Rattle.tokens.specs.Input.{Input, peek, posAt}
 use Rattle.steps.specs.Keywords.{word-wildcard, word-true, word-false, word-if, word-if-let}
@@ -96,12 +96,12 @@ treeAt s i kind flags ts = node (head kind flags (posAt s i) 0 0) ts
 abbrev pub bareTree : ℕ → Trees → Tree
 bareTree kind ts = node (head kind 0 0 0 0) ts
 
--- the name at token i, and the name behind its `$`: it starts one later and is one shorter
+-- the name at token i, and the name behind its `$`
 abbrev pub nameAt : Input → ℕ → Tree
 nameAt s i = ast.Ident (posAt s i) (peek s i .word1)
 
 abbrev pub constantAt : Input → ℕ → Tree
-constantAt s i = ast.Ident (posAt s i) (peek s i .word1 + 4294967295)
+constantAt s i = ast.Ident (posAt s i) (withoutFirst (peek s i .word1))
 
 -- the integer at token i
 abbrev pub integerAt : Input → ℕ → ℕ → Tree

@@ -10,7 +10,7 @@ use Rattle.trees.specs.Choice.{pick, choose}
 use Rattle.trees.specs.Tree.{Trees, node, ∅, _▸_}
 use Rattle.trees.specs.declared.Head.{Head}
 use Rattle.trees.specs.Ast.{Ident}
-use Rattle.trees.specs.Names.{spelled}
+use Rattle.trees.specs.Names.{spelled, withoutFirst}
 use Rattle.tokens.specs.declared.Token.{Token}
 use Rattle.tokens.specs.Token.{isLparen, isRparen, isSymbol, isInt, isAt, isWord}
 use Rattle.tokens.specs.Ident.{identRefusal}
@@ -133,7 +133,7 @@ module _ {m : ℕ} {s t : Input} (a : Agree m s t) where
 
   pub constants : Begins s 3 m (parseConst s) (parseConst t)
   unfolding parseConst
-  constants = names constRefusal (λ w. w + 4294967295)
+  constants = names constRefusal withoutFirst
 
 -- a name is one token
 one-token : {P : ℕ → Type 0} {us : ℕ → Trees} {i j : ℕ} {ts : Trees} → One P us i ts j → j ≡ i + 1

@@ -11,8 +11,8 @@ use mir.Syntax.{w64}
 use mir.Val.{Fits}
 use borrow.Author.Tests.{eq-eqb, ne-eqb, eqb-true, eqb-false, lt-ltb, ltb-true}
 use Rattle.trees.specs.Choice.{pick}
-use Rattle.trees.specs.Names.{spelled, Nonempty}
-use Rattle.trees.proofs.Laws.{spelled-within}
+use Rattle.trees.specs.Names.{spelled, Nonempty, withoutFirst}
+use Rattle.trees.proofs.Laws.{spelled-nonempty, rest-nonempty}
 use Rattle.tokens.specs.Ident.{identRefusal}
 use Rattle.steps.specs.declared.Cut.{Cut}
 use Rattle.steps.specs.declared.Cut.the-variants.{Name, NoName}
@@ -30,7 +30,7 @@ identifier-long [] e = absurd (omega arith)
 identifier-long (c ∷ cs) e = omega arith
 
 pub identifier-nonempty : (text b : List ℕ) (w c : ℕ) → b ≡ spelled text w → c ≡ identRefusal b → c ≡ 0 → Nonempty w
-identifier-nonempty text b w c e f z = omega (arith, identifier-long b (sym f ∙ z), spelled-within text w, ap length e)
+identifier-nonempty text b w c e f z = spelled-nonempty text w (omega (arith, identifier-long b (sym f ∙ z), ap length e))
 
 -- where another number stands for the refusals of an identifier
 pub refused-nonempty : (text b : List ℕ) (code w c : ℕ) → 0 < code → b ≡ spelled text w → c ≡ refusedAs code b → c ≡ 0 → Nonempty w
@@ -100,18 +100,18 @@ starts-inside (b ∷ bs) (suc a) n e = omega (arith, starts-inside bs a n e)
 
 module _ (text b : List ℕ) (c w : ℕ) (e : b ≡ spelled text w) (f : c ≡ constRefusal b) where
   -- where the code adds, nothing is lost
-  pub const-fits : length text ≤ 65536 → c ≡ 0 → Fits w64 (w + 4294967295)
+  pub const-fits : length text ≤ 65536 → c ≡ 0 → Fits w64 (withoutFirst w)
   unfolding spelled
   const-fits h z =
       let first : getD (take (w % 4294967296) (drop (w / 4294967296) text)) 0 0 ≡ 36 = rw e at (is-constant b (sym f ∙ z) .dollar) in
       omega (arith, h, starts-inside text (w / 4294967296) (w % 4294967296) first)
 
   -- THE PROMISE: the name is not empty
-  pub cut-name : c ≡ 0 → CutTo w (constRefusal (spelled text w)) (Name (w + 4294967295))
+  pub cut-name : c ≡ 0 → CutTo w (constRefusal (spelled text w)) (Name (withoutFirst w))
   unfolding CutTo
   cut-name z =
       let d = is-constant b (sym f ∙ z) in
-      (ap constRefusal (sym e) ∙ sym f ∙ z, refl, omega (arith, d .longer, spelled-within text w, ap length e))
+      (ap constRefusal (sym e) ∙ sym f ∙ z, refl, rest-nonempty text w (omega (arith, d .longer, ap length e)))
 
   pub cut-none : (c ≡ 0 → ⊥) → CutTo w (constRefusal (spelled text w)) (NoName c)
   unfolding CutTo
@@ -123,10 +123,10 @@ module _ (range c : ℕ) (x : Cut) (h : CutTo range c x) where
   unfolding CutTo
   cut-nonempty w e = let q = rw e at h in q .2
 
-  pub const-put : (w pos i n k : ℕ) (l l′ : List ℕ) (r : Parsed) → x ≡ Name w → Met (identAt pos w 0 i) n k l l′ r → Met (identAt pos (range + 4294967295) c i) n k l l′ r
+  pub const-put : (w pos i n k : ℕ) (l l′ : List ℕ) (r : Parsed) → x ≡ Name w → Met (identAt pos w 0 i) n k l l′ r → Met (identAt pos (withoutFirst range) c i) n k l l′ r
   unfolding CutTo
   const-put w pos i n k l l′ r e m = let q = rw e at h in rw (q .0, ← q .1) m
 
-  pub const-out : (d pos i n k j : ℕ) (l : List ℕ) → x ≡ NoName d → j ≡ i + 1 → Met (identAt pos (range + 4294967295) c i) n k l l (Refused (refusal d pos j))
+  pub const-out : (d pos i n k j : ℕ) (l : List ℕ) → x ≡ NoName d → j ≡ i + 1 → Met (identAt pos (withoutFirst range) c i) n k l l (Refused (refusal d pos j))
   unfolding CutTo
-  const-out d pos i n k j l e g = let q = rw e at h in rw (q .0) (ident-refused pos (range + 4294967295) c i n k j l g (q .1))
+  const-out d pos i n k j l e g = let q = rw e at h in rw (q .0) (ident-refused pos (withoutFirst range) c i n k j l g (q .1))

@@ -11,7 +11,7 @@ use Rattle.trees.specs.Choice.{pick, choose}
 use Rattle.trees.specs.Tree.{Tree, Trees, node, ∅, _▸_, _⧺_, count, head, recordsAll}
 use Rattle.trees.specs.declared.Head.{Head}
 use Rattle.trees.specs.Ast.{Ident}
-use Rattle.trees.specs.Names.{spelled}
+use Rattle.trees.specs.Names.{spelled, withoutFirst}
 use Rattle.trees.proofs.Laws.{size-none, size-one, size-node, size-⧺, count-size}
 use Rattle.tokens.specs.declared.Token.{Token}
 use Rattle.tokens.specs.Token.{tokenCount, tokenAt, isLparen, isRparen, isSymbol, isInt, isAt, isConst, isWord}
@@ -241,7 +241,7 @@ ident-item s = item 2 s (parseIdent s) (ident-bounded s)
 
 pub const-bounded : (s : Input) → Bounded 1 2 0 s (parseConst s)
 unfolding parseConst
-const-bounded s = record { sized = name-sized s constRefusal (λ w. w + 4294967295) }
+const-bounded s = record { sized = name-sized s constRefusal withoutFirst }
 
 pub const-steady : (s : Input) → Steady s (parseConst s)
 const-steady s = steady 1 2 s (parseConst s) (const-bounded s)
@@ -427,5 +427,5 @@ module _ (tokens text : List ℕ) (end : ℕ) (p q : Parsed) (i n k : ℕ) (h : 
     pub name-small : isSymbol t ≡ true → Met (identAt (t .pos) (t .word1) (identRefusal (spelled text (t .word1))) i) n k l l′ r → Small r
     name-small v m = inside-small (parseIdent (input tokens text end)) r l l′ (name-inside tokens text end i n k p q r t l l′ e v a b m) (ident-steady (input tokens text end))
 
-    pub const-small : isConst text t ≡ true → Met (identAt (t .pos) (t .word1 + 4294967295) (constRefusal (spelled text (t .word1))) i) n k l l′ r → Small r
+    pub const-small : isConst text t ≡ true → Met (identAt (t .pos) (withoutFirst (t .word1)) (constRefusal (spelled text (t .word1))) i) n k l l′ r → Small r
     const-small v m = inside-small (parseConst (input tokens text end)) r l l′ (const-inside tokens text end i n k p q r t l l′ e v a b m) (const-steady (input tokens text end))

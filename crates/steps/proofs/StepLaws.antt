@@ -14,7 +14,7 @@ use borrow.Author.Tests.{eq-eqb, ne-eqb, eqb-true, not-true, not-false}
 use Rattle.trees.specs.Choice.{pick, choose}
 use Rattle.trees.specs.Tree.{Trees, node, ∅, _▸_, head, recordOf, recordsAll}
 use Rattle.trees.specs.declared.Head.{Head}
-use Rattle.trees.specs.Names.{spelled}
+use Rattle.trees.specs.Names.{spelled, withoutFirst}
 use Rattle.trees.specs.Ast.{Ident}
 use Rattle.trees.proofs.Laws.{count-none, count-one, size-one, size-node, size-none}
 use Rattle.records.specs.Slots.{put, writes}
@@ -204,7 +204,7 @@ ident-is : (s : Input) (j : ℕ) → parseIdent s j ≡ nameBy s identRefusal (�
 unfolding parseIdent
 ident-is s j = refl
 
-const-is : (s : Input) (j : ℕ) → parseConst s j ≡ nameBy s constRefusal (λ w. w + 4294967295) j
+const-is : (s : Input) (j : ℕ) → parseConst s j ≡ nameBy s constRefusal withoutFirst j
 unfolding parseConst
 const-is s j = refl
 
@@ -213,15 +213,15 @@ module _ (tokens text : List ℕ) (end i n k : ℕ) (p : Parsed) (t : Token) (l 
   ident-named l′ x e a v m =
       by-name (input tokens text end) identRefusal (λ w. w) (parseIdent (input tokens text end)) (ident-is (input tokens text end)) i n k p t true l l′ (spelled text (t .word1)) (identRefusal (spelled text (t .word1))) x e a (sym v) refl refl refl m
 
-  pub const-named : (l′ : List ℕ) (x : Parsed) → p ≡ Accepted i n k → t ≡ tokenAt tokens end i → isSymbol t ≡ true → Met (identAt (t .pos) (t .word1 + 4294967295) (constRefusal (spelled text (t .word1))) i) n k l l′ x → Chained (parseConst (input tokens text end)) p l l′ x
+  pub const-named : (l′ : List ℕ) (x : Parsed) → p ≡ Accepted i n k → t ≡ tokenAt tokens end i → isSymbol t ≡ true → Met (identAt (t .pos) (withoutFirst (t .word1)) (constRefusal (spelled text (t .word1))) i) n k l l′ x → Chained (parseConst (input tokens text end)) p l l′ x
   const-named l′ x e a v m =
-      by-name (input tokens text end) constRefusal (λ w. w + 4294967295) (parseConst (input tokens text end)) (const-is (input tokens text end)) i n k p t true l l′ (spelled text (t .word1)) (constRefusal (spelled text (t .word1))) x e a (sym v) refl refl refl m
+      by-name (input tokens text end) constRefusal withoutFirst (parseConst (input tokens text end)) (const-is (input tokens text end)) i n k p t true l l′ (spelled text (t .word1)) (constRefusal (spelled text (t .word1))) x e a (sym v) refl refl refl m
 
   pub ident-other : (r : Bool) (u : Refusal) → p ≡ Accepted i n k → t ≡ tokenAt tokens end i → r ≡ isSymbol t → r ≡ false → u ≡ unexpected t i → Chained (parseIdent (input tokens text end)) p l l (Refused u)
   ident-other r = by-other (input tokens text end) identRefusal (λ w. w) (parseIdent (input tokens text end)) (ident-is (input tokens text end)) i n k p t r l
 
   pub const-other : (r : Bool) (u : Refusal) → p ≡ Accepted i n k → t ≡ tokenAt tokens end i → r ≡ isSymbol t → r ≡ false → u ≡ unexpected t i → Chained (parseConst (input tokens text end)) p l l (Refused u)
-  const-other r = by-other (input tokens text end) constRefusal (λ w. w + 4294967295) (parseConst (input tokens text end)) (const-is (input tokens text end)) i n k p t r l
+  const-other r = by-other (input tokens text end) constRefusal withoutFirst (parseConst (input tokens text end)) (const-is (input tokens text end)) i n k p t r l
 
 -- what a test has told
 pub told : (t : Token) (r : Bool) → r ≡ isSymbol t → r ≡ true → isSymbol t ≡ true
@@ -312,7 +312,7 @@ module _ (tokens text : List ℕ) (end i n k : ℕ) (p q r : Parsed) (t : Token)
   pub name-inside : t ≡ tokenFor tokens end p → isSymbol t ≡ true → q ≡ inside p → q ≡ Accepted i n k → Met (identAt (t .pos) (t .word1) (identRefusal (spelled text (t .word1))) i) n k l l′ r → Chained (parseIdent (input tokens text end)) q l l′ r
   name-inside e v a b m = ident-named tokens text end i n k q t l l′ r b (token-here tokens end i n k t q (token-inside tokens end t p q e a) b) v m
 
-  pub const-inside : t ≡ tokenFor tokens end p → isConst text t ≡ true → q ≡ inside p → q ≡ Accepted i n k → Met (identAt (t .pos) (t .word1 + 4294967295) (constRefusal (spelled text (t .word1))) i) n k l l′ r → Chained (parseConst (input tokens text end)) q l l′ r
+  pub const-inside : t ≡ tokenFor tokens end p → isConst text t ≡ true → q ≡ inside p → q ≡ Accepted i n k → Met (identAt (t .pos) (withoutFirst (t .word1)) (constRefusal (spelled text (t .word1))) i) n k l l′ r → Chained (parseConst (input tokens text end)) q l l′ r
   const-inside e v a b m = const-named tokens text end i n k q t l l′ r b (token-here tokens end i n k t q (token-inside tokens end t p q e a) b) (const-told text t v) m
 
 pub closed-by : (tokens : List ℕ) (end kind flags x : ℕ) (p q r : Parsed) (l l′ : List ℕ) → x ≡ tokenFor tokens end p .pos → Closed (head kind flags x 0 0) p q l l′ r → Closed (head kind flags (tokenFor tokens end p .pos) 0 0) p q l l′ r

@@ -6,7 +6,7 @@ use mathlib.Core.Bool.{Bool, false, not}
 use lib.ListN.{length}
 use lib.Dec.{leb}
 use Rattle.trees.specs.Choice.{pick}
-use Rattle.trees.specs.Names.{Nonempty}
+use Rattle.trees.specs.Names.{Nonempty, withoutFirst}
 use Rattle.trees.specs.Tree.{Trees, count, recordOf, recordsAll}
 use Rattle.trees.specs.declared.Head.{Head}
 use Rattle.records.specs.Slots.{put, writes}
@@ -133,5 +133,5 @@ Flags flags (Refused e) x = Unit {0}
 -- what cutting off the `$` of a symbol of this range comes to, where c is its refusal as a constant, 0 for none: the name that is left starts one later,
 -- is one shorter and is not empty
 unfoldable pub CutTo : ℕ → ℕ → Cut → Type 0
-CutTo range c (Name w) = (c ≡ 0) × (w ≡ range + 4294967295) × Nonempty w
+CutTo range c (Name w) = (c ≡ 0) × (w ≡ withoutFirst range) × Nonempty w
 CutTo range c (NoName d) = (d ≡ c) × (c ≡ 0 → ⊥)

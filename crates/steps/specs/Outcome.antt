@@ -9,7 +9,7 @@ use Rattle.trees.specs.Choice.{pick, choose}
 use Rattle.trees.specs.Tree.{Tree, Trees, node, ∅, _▸_, _⧺_, count, head}
 use Rattle.trees.specs.declared.Head.{Head}
 use Rattle.trees.specs.Ast.{Ident}
-use Rattle.trees.specs.Names.{spelled}
+use Rattle.trees.specs.Names.{spelled, withoutFirst}
 use Rattle.tokens.specs.declared.Token.{Token}
 use Rattle.tokens.specs.Token.{tokenAt, isLparen, isRparen, isSymbol, isAt, isWord}
 use Rattle.tokens.specs.Ident.{identRefusal}
@@ -159,12 +159,12 @@ nameBy s judge range i =
 unfoldable pub parseIdent : Input → Reader
 parseIdent s i = nameBy s identRefusal (λ w. w) i
 
--- a constant is an identifier that starts with `$` and has at least one byte more. The `$` is cut off: the start is one more, the length one less
+-- a constant is an identifier that starts with `$` and has at least one byte more. The `$` is cut off
 unfoldable pub constRefusal : List ℕ → ℕ
 constRefusal b = pick (eqb (identRefusal b) 0) (pick (eqb (getD b 0 0) 36 && ltb 1 (length b)) 0 16) (identRefusal b)
 
 unfoldable pub parseConst : Input → Reader
-parseConst s i = nameBy s constRefusal (λ w. w + 4294967295) i
+parseConst s i = nameBy s constRefusal withoutFirst i
 
 -- an identifier that is refused with another number
 unfoldable pub refusedAs : ℕ → List ℕ → ℕ

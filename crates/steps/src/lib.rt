@@ -16,7 +16,7 @@ ghost use mathlib.Core.Path.{_≡_};
 ghost use Prim.Native.Nat.{ℕ, _+_, _-_, _*_, _/_, _≤_, _<_};
 ghost use lib.ListN.{length};
 ghost use mathlib.Core.Bool.{true};
-ghost use Rattle.trees.specs.Names.{spelled, Nonempty};
+ghost use Rattle.trees.specs.Names.{spelled, Nonempty, withoutFirst};
 ghost use Rattle.trees.specs.Tree.{head};
 ghost use Rattle.tokens.specs.Token.{tokenAt, kindAt, pastLast, isKind, isLparen, isRparen, isSymbol, isAt, isConst, isWord};
 ghost use Rattle.tokens.specs.Ident.{identRefusal};
@@ -343,7 +343,7 @@ fn put_const(
 ) -> Parsed
     requires { ⌜ Below at n items ⌝ }
     requires { ⌜ length (now text) ≤ 65536 ⌝ }
-    ensures { λ r. ⌜ Met (identAt pos (range + 4294967295) (constRefusal (spelled (now (text .entry)) range)) at) n items (now (out .entry)) (now (out .exit)) r ⌝ }
+    ensures { λ r. ⌜ Met (identAt pos (withoutFirst range) (constRefusal (spelled (now (text .entry)) range)) at) n items (now (out .entry)) (now (out .exit)) r ⌝ }
 {
     match cut_dollar(text, range) {
         Cut::Name(name) => {
