@@ -41,7 +41,13 @@ fn parse_iflet_if(tokens: &[u8], text: &[u8], end: u32, out: &mut [u8], p: Parse
 }
 
 // An if-let, or the expression that ends a rule.
-pub fn parse_iflet_or_expr(tokens: &[u8], text: &[u8], end: u32, out: &mut [u8], p: Parsed) -> Parsed
+pub fn parse_iflet_or_expr(
+    tokens: &[u8],
+    text: &[u8],
+    end: u32,
+    out: &mut [u8],
+    p: Parsed,
+) -> Parsed
     requires { ⌜ Ready 3 (input (now tokens) (now text) end) p ⌝ }
     ensures { λ r. ⌜ Chained (parseIfletOrExpr (input (now (tokens .entry)) (now (text .entry)) end)) p (now (out .entry)) (now (out .exit)) r ⌝ }
 {

@@ -73,17 +73,19 @@ modifiers-read s p st l e = rw e (all-passed s (inside p) l)
 modifiers-steady : (s : Input) → Steady s (declModifiers s)
 unfolding declModifiers
 modifiers-steady s =
-    record { sized = λ i.
-      let a = ate-range s word-pure i in
-      let b = ate-range s word-multi (afterPure s i) in
-      let c = ate-range s word-partial (afterMulti s i) in
-      let d = ate-range s word-rec (afterPartial s i) in
-      sized-accept 0 0 0 s i ∅ (afterRec s i)
-      (record {
-        on = omega (arith, a .low, b .low, c .low, d .low);
-        inside = λ z. d .inside (c .inside (b .inside (a .inside z)));
-        room = omega (arith, size-none, a .low, b .low, c .low, d .low);
-      }) }
+    record {
+      sized = λ i.
+          let a = ate-range s word-pure i in
+          let b = ate-range s word-multi (afterPure s i) in
+          let c = ate-range s word-partial (afterMulti s i) in
+          let d = ate-range s word-rec (afterPartial s i) in
+          sized-accept 0 0 0 s i ∅ (afterRec s i)
+          (record {
+            on = omega (arith, a .low, b .low, c .low, d .low);
+            inside = λ z. d .inside (c .inside (b .inside (a .inside z)));
+            room = omega (arith, size-none, a .low, b .low, c .low, d .low);
+          });
+    }
 
 pub modifiers-ready : (s : Input) (p st : Parsed) (l : List ℕ) → st ≡ moved (declModifiers s) (inside p) → Ready 3 s p → Ready 4 s st
 modifiers-ready s p st l e a = ready-after (declModifiers s) (inside p) l l st 4 s (modifiers-read s p st l e) (modifiers-steady s) (ready-inside 3 4 (omega arith) (omega arith) s p (inside p) refl a)

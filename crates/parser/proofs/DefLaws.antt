@@ -132,7 +132,7 @@ module _ (s : Input) where
 module _ (text : List ℕ) (t : Token) where
   pub uncovered-1 : (a : Bool) → a ≡ isWord text word-spec t → a ≡ true → true ≡ isUncovered text t
   unfolding isUncovered
-  uncovered-1 a  a₁ a₂ = rw (← a₁, a₂)
+  uncovered-1 a a₁ a₂ = rw (← a₁, a₂)
 
   pub uncovered-2 : (a b : Bool) → a ≡ isWord text word-spec t → a ≡ false → b ≡ isWord text word-macro t → b ≡ true → true ≡ isUncovered text t
   unfolding isUncovered

@@ -58,11 +58,13 @@ end-reach s (suc f) i =
 pub modifiers-steady : (s : Input) → Steady s (parseModifiers s)
 unfolding parseModifiers
 modifiers-steady s =
-    record { sized = λ i.
-      let j = modifiersEnd s (size s) i in
-      sized-choose 0 0 0 s i (isSymbol (peek s j)) (λ _. refuse (refusal 18 (posAt s (j + 1)) (j + 1))) (λ _. accept ∅ j)
-      (λ e. sized-refuse 0 0 0 s i (refusal 18 (posAt s (j + 1)) (j + 1)))
-      (λ e. let r = end-reach s (size s) i in sized-accept 0 0 0 s i ∅ j (record { on = omega (arith, r .on); inside = r .inside; room = omega (arith, size-none, r .on) })) }
+    record {
+      sized = λ i.
+          let j = modifiersEnd s (size s) i in
+          sized-choose 0 0 0 s i (isSymbol (peek s j)) (λ _. refuse (refusal 18 (posAt s (j + 1)) (j + 1))) (λ _. accept ∅ j)
+          (λ e. sized-refuse 0 0 0 s i (refusal 18 (posAt s (j + 1)) (j + 1)))
+          (λ e. let r = end-reach s (size s) i in sized-accept 0 0 0 s i ∅ j (record { on = omega (arith, r .on); inside = r .inside; room = omega (arith, size-none, r .on) }));
+    }
 
 -- ---- one turn
 
@@ -118,7 +120,7 @@ past-ends s (suc f) i h = ends-none s i f (past-none s word-extern i h) (past-no
 
 module _ (tokens text : List ℕ) (end i e n : ℕ) (t : Token) (r : Bool) where
   pub turn-extern : (e ≤ 1) × (n ≤ 2) → t ≡ tokenAt tokens end i → r ≡ isWord text word-extern t → r ≡ true → Turned (input tokens text end) e n i true 1 n
-  turn-extern b a p q = record { flags = λ f. flags-extern (input tokens text end) e n i f (ap (isWord text word-extern) (sym a) ∙ sym p ∙ q) ; ends = λ f. ends-extern (input tokens text end) i f (ap (isWord text word-extern) (sym a) ∙ sym p ∙ q); small = omega arith; few = b .1 }
+  turn-extern b a p q = record { flags = λ f. flags-extern (input tokens text end) e n i f (ap (isWord text word-extern) (sym a) ∙ sym p ∙ q); ends = λ f. ends-extern (input tokens text end) i f (ap (isWord text word-extern) (sym a) ∙ sym p ∙ q); small = omega arith; few = b .1 }
 
   pub turn-nodebug : (z : Bool) → (e ≤ 1) × (n ≤ 2) → t ≡ tokenAt tokens end i → r ≡ isWord text word-extern t → r ≡ false → z ≡ isWord text word-nodebug t → z ≡ true → Turned (input tokens text end) e n i true e 2
   turn-nodebug z b a p q u v = record { flags = λ f. flags-nodebug (input tokens text end) e n i f (ap (isWord text word-extern) (sym a) ∙ sym p ∙ q) (ap (isWord text word-nodebug) (sym a) ∙ sym u ∙ v); ends = λ f. ends-nodebug (input tokens text end) i f (ap (isWord text word-extern) (sym a) ∙ sym p ∙ q) (ap (isWord text word-nodebug) (sym a) ∙ sym u ∙ v); small = b .0; few = omega arith }

@@ -162,12 +162,14 @@ module _ (s : Input) where
   priority-bounded : (place : ℕ) → Bounded 0 0 0 s (rulePriority s place)
   unfolding rulePriority
   priority-bounded place =
-      record { sized = λ i.
-        let h = head Priority 0 0 (peek s i .word2) 0 in
-        sized-choose 0 0 0 s i (isInt (peek s i))
-        (λ _. pick (isI64 (peek s i .word1) (peek s i .word2)) (accept (node h ∅ ▸ ∅) (i + 1)) (refuse (refusal 24 place (i + 1)))) (λ _. accept ∅ i)
-        (λ e. priority-sized s i place h (isI64 (peek s i .word1) (peek s i .word2)) (met-there s i isInt int-kinded e))
-        (λ e. sized-accept 0 0 0 s i ∅ i (record { on = omega arith; inside = λ z. z; room = omega (arith, size-none) })) }
+      record {
+        sized = λ i.
+            let h = head Priority 0 0 (peek s i .word2) 0 in
+            sized-choose 0 0 0 s i (isInt (peek s i))
+            (λ _. pick (isI64 (peek s i .word1) (peek s i .word2)) (accept (node h ∅ ▸ ∅) (i + 1)) (refuse (refusal 24 place (i + 1)))) (λ _. accept ∅ i)
+            (λ e. priority-sized s i place h (isI64 (peek s i .word1) (peek s i .word2)) (met-there s i isInt int-kinded e))
+            (λ e. sized-accept 0 0 0 s i ∅ i (record { on = omega arith; inside = λ z. z; room = omega (arith, size-none) }));
+      }
 
   head-bounded : (place : ℕ) → Bounded 0 0 0 s (ruleName s ⊳ rulePriority s place)
   head-bounded place = then-bounded 0 0 0 0 0 0 s (ruleName s) (rulePriority s place) name-bounded (priority-bounded place)

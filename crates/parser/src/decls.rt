@@ -64,7 +64,12 @@ fn decl_state(tokens: &[u8], text: &[u8], end: u32, p: Parsed) -> Modified
     requires { ⌜ Ready 3 (input (now tokens) (now text) end) p ⌝ }
     ensures { λ r. ⌜ DeclState (input (now (tokens .entry)) (now (text .entry)) end) p (r .flags) (r .state) ⌝ }
 {
-    let Parsed::Accepted { next, count, items: _ } = p else {
+    let Parsed::Accepted {
+        next,
+        count,
+        items: _,
+    } = p
+    else {
         return Modified { flags: 0, state: p };
     };
     let m = decl_modifiers(tokens, text, end, next);

@@ -3,6 +3,7 @@ pub mod attrs;
 pub mod decls;
 pub mod rules;
 pub mod types;
+
 use attrs::parse_attr;
 use decls::parse_converter;
 use decls::parse_decl;
@@ -86,7 +87,14 @@ fn def_rule(tokens: &[u8], text: &[u8], end: u32, out: &mut [u8], p: Parsed, u: 
     expect_rparen(tokens, end, q)
 }
 
-fn def_extractor(tokens: &[u8], text: &[u8], end: u32, out: &mut [u8], p: Parsed, u: Token) -> Parsed
+fn def_extractor(
+    tokens: &[u8],
+    text: &[u8],
+    end: u32,
+    out: &mut [u8],
+    p: Parsed,
+    u: Token,
+) -> Parsed
     requires { ⌜ Ready 3 (input (now tokens) (now text) end) p ⌝ }
     requires { ⌜ u ≡ secondFor (now tokens) end p ⌝ }
     ensures { λ r. ⌜ Chained (worded (input (now (tokens .entry)) (now (text .entry)) end) word-extractor (parseEtor (input (now (tokens .entry)) (now (text .entry)) end))) p (now (out .entry)) (now (out .exit)) r ⌝ }
@@ -155,7 +163,14 @@ fn other_def(tokens: &[u8], text: &[u8], end: u32, p: Parsed, u: Token) -> Parse
 }
 
 // A definition by the word after its `(`: the less frequent words.
-fn parse_def_rest(tokens: &[u8], text: &[u8], end: u32, out: &mut [u8], p: Parsed, u: Token) -> Parsed
+fn parse_def_rest(
+    tokens: &[u8],
+    text: &[u8],
+    end: u32,
+    out: &mut [u8],
+    p: Parsed,
+    u: Token,
+) -> Parsed
     requires { ⌜ Ready 3 (input (now tokens) (now text) end) p ⌝ }
     requires { ⌜ u ≡ secondFor (now tokens) end p ⌝ }
     ensures { λ r. ⌜ Chained (restDef (input (now (tokens .entry)) (now (text .entry)) end)) p (now (out .entry)) (now (out .exit)) r ⌝ }
@@ -199,7 +214,12 @@ fn parse_def(tokens: &[u8], text: &[u8], end: u32, out: &mut [u8], p: Parsed) ->
 fn more_defs(tokens: &[u8], p: Parsed) -> bool
     ensures { λ r. ⌜ r ≡ goesOn (λ i. leb (tokenCount (now (tokens .entry))) i) p ⌝ }
 {
-    let Parsed::Accepted { next, count: _, items: _ } = p else {
+    let Parsed::Accepted {
+        next,
+        count: _,
+        items: _,
+    } = p
+    else {
         return false;
     };
     next < tokens.len() / Token::WIDTH

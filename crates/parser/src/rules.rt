@@ -84,7 +84,12 @@ fn refuse_place(tokens: &[u8], p: Parsed, code: u8, place: u32) -> Parsed
     requires { ⌜ Near p ⌝ }
     ensures { λ r. ⌜ r ≡ refusedAt code place p ⌝ }
 {
-    let Parsed::Accepted { next, count: _, items: _ } = p else {
+    let Parsed::Accepted {
+        next,
+        count: _,
+        items: _,
+    } = p
+    else {
         return p;
     };
     Parsed::Refused(Refusal {
@@ -114,14 +119,7 @@ fn rule_flags(tokens: &[u8], text: &[u8], end: u32, p: Parsed) -> u8
 }
 
 // The name, the priority and the pattern.
-fn rule_head(
-    tokens: &[u8],
-    text: &[u8],
-    end: u32,
-    out: &mut [u8],
-    p: Parsed,
-    place: u32,
-) -> Parsed
+fn rule_head(tokens: &[u8], text: &[u8], end: u32, out: &mut [u8], p: Parsed, place: u32) -> Parsed
     requires { ⌜ Ready 4 (input (now tokens) (now text) end) p ⌝ }
     ensures { λ r. ⌜ Chained (ruleName (input (now (tokens .entry)) (now (text .entry)) end) ⊳ rulePriority (input (now (tokens .entry)) (now (text .entry)) end) place) p (now (out .entry)) (now (out .exit)) r ⌝ }
 {
@@ -141,14 +139,7 @@ pub fn parse_rule(tokens: &[u8], text: &[u8], end: u32, out: &mut [u8], p: Parse
 }
 
 // What a rule is made of; 24 stands at `place`.
-fn rule_parts(
-    tokens: &[u8],
-    text: &[u8],
-    end: u32,
-    out: &mut [u8],
-    p: Parsed,
-    place: u32,
-) -> Parsed
+fn rule_parts(tokens: &[u8], text: &[u8], end: u32, out: &mut [u8], p: Parsed, place: u32) -> Parsed
     requires { ⌜ Ready 3 (input (now tokens) (now text) end) p ⌝ }
     ensures { λ r. ⌜ Chained (ruleParts (input (now (tokens .entry)) (now (text .entry)) end) place) p (now (out .entry)) (now (out .exit)) r ⌝ }
 {

@@ -65,7 +65,12 @@ fn parse_tuple_field(tokens: &[u8], text: &[u8], end: u32, out: &mut [u8], p: Pa
     requires { ⌜ Ready 3 (input (now tokens) (now text) end) p ⌝ }
     ensures { λ r. ⌜ ChainedAt (parseTupleField (input (now (tokens .entry)) (now (text .entry)) end)) p (now (out .entry)) (now (out .exit)) r ⌝ }
 {
-    let Parsed::Accepted { next: _, count: _, items } = p else {
+    let Parsed::Accepted {
+        next: _,
+        count: _,
+        items,
+    } = p
+    else {
         return p;
     };
     let pos = next_token(tokens, end, p).pos;
@@ -246,10 +251,18 @@ fn modifier(tokens: &[u8], text: &[u8], end: u32, at: usize, e: u8, n: u8) -> Tu
 {
     let t = peek(tokens, end, at);
     if t.is_word(text, b"extern") {
-        return Turn { more: true, e: 1, n };
+        return Turn {
+            more: true,
+            e: 1,
+            n,
+        };
     }
     if t.is_word(text, b"nodebug") {
-        return Turn { more: true, e, n: 2 };
+        return Turn {
+            more: true,
+            e,
+            n: 2,
+        };
     }
     Turn { more: false, e, n }
 }
@@ -285,7 +298,12 @@ fn modifiers_after(tokens: &[u8], text: &[u8], end: u32, p: Parsed) -> Modifiers
     requires { ⌜ Ready 3 (input (now tokens) (now text) end) p ⌝ }
     ensures { λ r. ⌜ ModifiedAt (input (now (tokens .entry)) (now (text .entry)) end) p (r .flags) (r .next) ⌝ }
 {
-    let Parsed::Accepted { next, count: _, items: _ } = p else {
+    let Parsed::Accepted {
+        next,
+        count: _,
+        items: _,
+    } = p
+    else {
         return Modifiers { flags: 0, next: 0 };
     };
     modifiers_from(tokens, text, end, after(tokens, next))
@@ -296,7 +314,12 @@ fn pass_modifiers(tokens: &[u8], end: u32, name: Parsed, next: usize) -> Parsed
     requires { ⌜ next < 17179869184 ⌝ }
     ensures { λ r. ⌜ r ≡ passed (now (tokens .entry)) end next name ⌝ }
 {
-    let Parsed::Accepted { next: _, count, items } = name else {
+    let Parsed::Accepted {
+        next: _,
+        count,
+        items,
+    } = name
+    else {
         return name;
     };
     let t = peek(tokens, end, next);

@@ -46,8 +46,20 @@ fn replay(name: &[u8], label: &[u8], kind: Kind) {
 
 pub fn replay_all() {
     replay(b"read.answers", b"reading: ", Kind::Output(Entry::Read));
-    replay(b"text.answers", b"reading text: ", Kind::Output(Entry::Text));
-    replay(b"template.answers", b"template making: ", Kind::Output(Entry::Make));
-    replay(b"substitute.answers", b"substitution: ", Kind::Output(Entry::Fill));
+    replay(
+        b"text.answers",
+        b"reading text: ",
+        Kind::Output(Entry::Text),
+    );
+    replay(
+        b"template.answers",
+        b"template making: ",
+        Kind::Output(Entry::Make),
+    );
+    replay(
+        b"substitute.answers",
+        b"substitution: ",
+        Kind::Output(Entry::Fill),
+    );
     replay(b"open.answers", b"opening: ", Kind::Open);
 }

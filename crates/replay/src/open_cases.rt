@@ -101,8 +101,30 @@ fn compare(
     requires { ⌜ o + 10 ≤ length (now out) ⌝ }
     ensures { λ r. ⌜ r .differ ≡ afterOpening (tally .differ) (opened (now (text .entry)) (now (defs .entry)) (now (pattern .entry))) s o answer (now (stored .entry)) (now (written .entry)) ⌝ }
 {
-    let exact = agrees_at(text, defs, pattern, store, s, out, o, answer, stored, written);
-    let more = agrees_at(text, defs, pattern, store, s + 10, out, o + 10, answer, stored, written);
+    let exact = agrees_at(
+        text,
+        defs,
+        pattern,
+        store,
+        s,
+        out,
+        o,
+        answer,
+        stored,
+        written,
+    );
+    let more = agrees_at(
+        text,
+        defs,
+        pattern,
+        store,
+        s + 10,
+        out,
+        o + 10,
+        answer,
+        stored,
+        written,
+    );
     tally.case().call(exact).call(more)
 }
 
@@ -182,7 +204,19 @@ fn replay_outputs(
 {
     let mut store = out_space();
     let mut out = out_space();
-    compare(text, defs, pattern, &mut store, s, &mut out, o, answer, stored, written, tally)
+    compare(
+        text,
+        defs,
+        pattern,
+        &mut store,
+        s,
+        &mut out,
+        o,
+        answer,
+        stored,
+        written,
+        tally,
+    )
 }
 
 // The rest of a case: buffers of just the sizes that it names.
@@ -214,7 +248,17 @@ fn replay_parts(
         return damaged(tally);
     }
     Step {
-        tally: replay_outputs(text, defs, pattern, c.store, c.out, c.answer, stored, written, tally),
+        tally: replay_outputs(
+            text,
+            defs,
+            pattern,
+            c.store,
+            c.out,
+            c.answer,
+            stored,
+            written,
+            tally,
+        ),
         more: true,
     }
 }

@@ -47,7 +47,14 @@ struct Case {
     answer: u64,
 }
 
-fn answer_of(entry: Entry, text: &[u8], first: &[u8], second: &[u8], end: u32, out: &mut [u8]) -> u64
+fn answer_of(
+    entry: Entry,
+    text: &[u8],
+    first: &[u8],
+    second: &[u8],
+    end: u32,
+    out: &mut [u8],
+) -> u64
     ensures { λ r. ⌜ says r (now (out .exit)) ≡ said entry (now (text .entry)) (now (first .entry)) (now (second .entry)) end (length (now (out .entry))) ⌝ }
 {
     match entry {
@@ -91,7 +98,16 @@ fn agrees_at(
     requires { ⌜ size ≤ length (now out) ⌝ }
     ensures { λ r. ⌜ r ≡ agreed (said entry (now (text .entry)) (now (first .entry)) (now (second .entry)) end size) answer (now (records .entry)) ⌝ }
 {
-    agrees(entry, text, first, second, end, &mut out[..size], answer, records)
+    agrees(
+        entry,
+        text,
+        first,
+        second,
+        end,
+        &mut out[..size],
+        answer,
+        records,
+    )
 }
 
 // An output of just the size, and a larger one. The larger one has room for every list that reading begins and then refuses, and ends within a record.
@@ -152,8 +168,28 @@ fn compare(
     requires { ⌜ length (now records) + (3 * length (now first) + 1000) ≤ length (now out) ⌝ }
     ensures { λ r. ⌜ r .differ ≡ afterCase (tally .differ) (said entry (now (text .entry)) (now (first .entry)) (now (second .entry)) end) (3 * length (now (first .entry)) + 1000) answer (now (records .entry)) ⌝ }
 {
-    let t = compare_room(entry, text, first, second, end, answer, records, out, tally.case());
-    compare_short(entry, text, first, second, end, answer, records.len(), out, t)
+    let t = compare_room(
+        entry,
+        text,
+        first,
+        second,
+        end,
+        answer,
+        records,
+        out,
+        tally.case(),
+    );
+    compare_short(
+        entry,
+        text,
+        first,
+        second,
+        end,
+        answer,
+        records.len(),
+        out,
+        t,
+    )
 }
 
 // Room for 1,024 records, three records for each of 1,024 tokens, and 1,000 bytes.
@@ -256,7 +292,17 @@ fn replay_parts(
     }
     let mut out = out_space();
     Step {
-        tally: compare(entry, text, first, second, end, answer, records, &mut out, tally),
+        tally: compare(
+            entry,
+            text,
+            first,
+            second,
+            end,
+            answer,
+            records,
+            &mut out,
+            tally,
+        ),
         more: true,
     }
 }
@@ -301,7 +347,15 @@ fn replay_case(fd: i32, c: Case, tally: Tally) -> Step
     let mut first = list_space();
     let mut second = list_space();
     let mut records = list_space();
-    lend(fd, &mut text, &mut first, &mut second, &mut records, c, tally)
+    lend(
+        fd,
+        &mut text,
+        &mut first,
+        &mut second,
+        &mut records,
+        c,
+        tally,
+    )
 }
 
 // The next case, where the file has one.

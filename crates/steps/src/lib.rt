@@ -174,7 +174,12 @@ pub fn expect_word_of(tokens: &[u8], text: &[u8], end: u32, p: Parsed, w: &[u8],
 pub fn next_token(tokens: &[u8], end: u32, p: Parsed) -> Token
     ensures { λ r. ⌜ r ≡ tokenFor (now (tokens .entry)) end p ⌝ }
 {
-    let Parsed::Accepted { next, count: _, items: _ } = p else {
+    let Parsed::Accepted {
+        next,
+        count: _,
+        items: _,
+    } = p
+    else {
         return past_last(end);
     };
     peek(tokens, end, next)
@@ -185,7 +190,12 @@ pub fn second_token(tokens: &[u8], end: u32, p: Parsed) -> Token
     requires { ⌜ Near p ⌝ }
     ensures { λ r. ⌜ r ≡ secondFor (now (tokens .entry)) end p ⌝ }
 {
-    let Parsed::Accepted { next, count: _, items: _ } = p else {
+    let Parsed::Accepted {
+        next,
+        count: _,
+        items: _,
+    } = p
+    else {
         return past_last(end);
     };
     peek_second(tokens, end, next)
@@ -196,7 +206,12 @@ pub fn second_kind(tokens: &[u8], end: u32, p: Parsed) -> u8
     requires { ⌜ Near p ⌝ }
     ensures { λ r. ⌜ r ≡ secondFor (now (tokens .entry)) end p .kind ⌝ }
 {
-    let Parsed::Accepted { next, count: _, items: _ } = p else {
+    let Parsed::Accepted {
+        next,
+        count: _,
+        items: _,
+    } = p
+    else {
         return Token::NONE;
     };
     kind_at(tokens, after(tokens, next))
@@ -206,7 +221,12 @@ pub fn second_kind(tokens: &[u8], end: u32, p: Parsed) -> u8
 fn next_pos(tokens: &[u8], end: u32, p: Parsed) -> u32
     ensures { λ r. ⌜ r ≡ tokenFor (now (tokens .entry)) end p .pos ⌝ }
 {
-    let Parsed::Accepted { next, count: _, items: _ } = p else {
+    let Parsed::Accepted {
+        next,
+        count: _,
+        items: _,
+    } = p
+    else {
         return end;
     };
     pos_at(tokens, end, next)
@@ -227,7 +247,12 @@ fn past_last(end: u32) -> Token
 pub fn goes_on(tokens: &[u8], end: u32, p: Parsed) -> bool
     ensures { λ r. ⌜ r ≡ goesOn (endsAt (now (tokens .entry)) end) p ⌝ }
 {
-    let Parsed::Accepted { next, count: _, items: _ } = p else {
+    let Parsed::Accepted {
+        next,
+        count: _,
+        items: _,
+    } = p
+    else {
         return false;
     };
     kind_at(tokens, next) != Token::RPAREN
@@ -402,7 +427,12 @@ pub fn inside(p: Parsed) -> Parsed
     requires { ⌜ Near p ⌝ }
     ensures { λ r. ⌜ r ≡ inside p ⌝ }
 {
-    let Parsed::Accepted { next, count, items: _ } = p else {
+    let Parsed::Accepted {
+        next,
+        count,
+        items: _,
+    } = p
+    else {
         return again(p);
     };
     Parsed::Accepted {
@@ -419,10 +449,20 @@ pub fn close(out: &mut [u8], p: Parsed, h: Head, q: Parsed) -> Parsed
     requires { ⌜ Small q ⌝ }
     ensures { λ r. ⌜ Closed h p q (now (out .entry)) (now (out .exit)) r ⌝ }
 {
-    let Parsed::Accepted { next: _, count: n, items } = p else {
+    let Parsed::Accepted {
+        next: _,
+        count: n,
+        items,
+    } = p
+    else {
         return again(p);
     };
-    let Parsed::Accepted { next, count, items: k } = q else {
+    let Parsed::Accepted {
+        next,
+        count,
+        items: k,
+    } = q
+    else {
         return again(q);
     };
     emit_at(
@@ -507,12 +547,7 @@ pub fn put_leaf(tokens: &[u8], out: &mut [u8], p: Parsed, h: Head) -> Parsed
         count: count + 1,
         items: 0,
     };
-    close(
-        out,
-        Parsed::Accepted { next, count, items },
-        h,
-        q,
-    )
+    close(out, Parsed::Accepted { next, count, items }, h, q)
 }
 
 // The same without words, by the next token t.
@@ -543,7 +578,12 @@ pub fn leaf_of(
 pub fn refuse_at(tokens: &[u8], end: u32, p: Parsed, code: u8) -> Parsed
     ensures { λ r. ⌜ r ≡ moved (refuseFrom (now (tokens .entry)) end code) p ⌝ }
 {
-    let Parsed::Accepted { next, count: _, items: _ } = p else {
+    let Parsed::Accepted {
+        next,
+        count: _,
+        items: _,
+    } = p
+    else {
         return again(p);
     };
     let place = peek(tokens, end, next).pos;
@@ -638,7 +678,12 @@ pub fn refuse_after(tokens: &[u8], text: &[u8], end: u32, p: Parsed, kind: u8, c
     requires { ⌜ Near p ⌝ }
     ensures { λ r. ⌜ r ≡ moved (refuseAfter (input (now (tokens .entry)) (now (text .entry)) end) kind code) p ⌝ }
 {
-    let Parsed::Accepted { next, count: _, items: _ } = p else {
+    let Parsed::Accepted {
+        next,
+        count: _,
+        items: _,
+    } = p
+    else {
         return again(p);
     };
     let t = peek(tokens, end, next);

@@ -114,7 +114,15 @@ fn argument(pos: u32, k: usize) -> Rec
 
 // Appends the record made of that at slot i: a copy of it, or a MacroArg. Each way reads the record itself: of what a copy wants all of, a
 // MacroArg wants little.
-fn append_made(text: &[u8], pattern: &[u8], i: usize, params: &[u8], out: &mut [u8], o: usize, room: usize) -> Appended
+fn append_made(
+    text: &[u8],
+    pattern: &[u8],
+    i: usize,
+    params: &[u8],
+    out: &mut [u8],
+    o: usize,
+    room: usize,
+) -> Appended
     requires { ⌜ i < slots (now pattern) ⌝ }
     requires { ⌜ slots (now pattern) ≤ 65536 ⌝ }
     requires { ⌜ Params (now params) ⌝ }

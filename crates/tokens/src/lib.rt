@@ -1,6 +1,7 @@
 // Token records: one read by value, its tests, the judgement of a whole lent list; identifiers.
-pub mod names;
 pub mod lent;
+pub mod names;
+
 use names::first_byte;
 use names::spelling;
 use words::same;
@@ -21,15 +22,22 @@ pub struct Token {
 impl Token {
     // The bytes of a token record, and the kinds (document 01, 'Token records').
     pub const WIDTH: usize = 24;
+
     pub const NONE: u8 = 0;
+
     pub const LPAREN: u8 = 1;
+
     pub const RPAREN: u8 = 2;
+
     pub const SYMBOL: u8 = 3;
+
     pub const INT: u8 = 4;
+
     pub const AT: u8 = 5;
 
     // Kinds that are never lent: what stands behind the tokens of a text where the lexer refuses the next one, and where there is one too many.
     pub const REFUSED: u8 = 6;
+
     pub const TOO_MANY: u8 = 7;
 
     pub fn is_lparen(self) -> bool

@@ -18,17 +18,17 @@ close-at-requires : tie.Need-close-at-requires
 close-at-requires c κs = (near-ready 2 _ _ (ready-inside 1 2 (omega arith) (omega arith) _ _ _ (c .before .before .inside .ensures) (c .before .before .before .before .before .before .pre)), small-ready 3 _ _ (ready-inside 2 3 (omega arith) (omega arith) _ _ _ (c .before .inside2 .ensures) (ready-inside 1 2 (omega arith) (omega arith) _ _ _ (c .before .before .inside .ensures) (c .before .before .before .before .before .before .pre))))
 
 parse-expr-requires : tie.Need-parse-expr-requires
-parse-expr-requires c κs = ready-first 1 3 (omega arith) (omega arith) _ _ _ _ _ _ _ (node-read _ _ _ _ _ _ _ _ _ _ _ _ _ (c .before .before .before .close-at .ensures) (c .before .before .before .before .before .inside2 .ensures) (nothing-read _ _ )) (c .before .before .before .before .before .before .inside .ensures) (wildcard-bounded _) (c .before .before .before .before .before .before .before .before .before .before .pre)
+parse-expr-requires c κs = ready-first 1 3 (omega arith) (omega arith) _ _ _ _ _ _ _ (node-read _ _ _ _ _ _ _ _ _ _ _ _ _ (c .before .before .before .close-at .ensures) (c .before .before .before .before .before .inside2 .ensures) (nothing-read _ _)) (c .before .before .before .before .before .before .inside .ensures) (wildcard-bounded _) (c .before .before .before .before .before .before .before .before .before .before .pre)
 
 close-at-requires-2 : tie.Need-close-at-requires-2
-close-at-requires-2 c κs = (search near-ready, small-after 3 _ _ _ _ _ _ _ _ (c .before .before .before .parse-expr .ensures) (c .before .before .before .before .before .before .before .before .before .before .before .before .before .before .pre) (expr-steady _ _) (ready-first 1 3 (omega arith) (omega arith) _ _ _ _ _ _ _ (node-read _ _ _ _ _ _ _ _ _ _ _ _ _ (c .before .before .before .before .before .before .before .close-at .ensures) (c .before .before .before .before .before .before .before .before .before .inside2 .ensures) (nothing-read _ _ )) (c .before .before .before .before .before .before .before .before .before .before .inside .ensures) (wildcard-bounded _) (c .before .before .before .before .before .before .before .before .before .before .before .before .before .before .pre)))
+close-at-requires-2 c κs = (search near-ready, small-after 3 _ _ _ _ _ _ _ _ (c .before .before .before .parse-expr .ensures) (c .before .before .before .before .before .before .before .before .before .before .before .before .before .before .pre) (expr-steady _ _) (ready-first 1 3 (omega arith) (omega arith) _ _ _ _ _ _ _ (node-read _ _ _ _ _ _ _ _ _ _ _ _ _ (c .before .before .before .before .before .before .before .close-at .ensures) (c .before .before .before .before .before .before .before .before .before .inside2 .ensures) (nothing-read _ _)) (c .before .before .before .before .before .before .before .before .before .before .inside .ensures) (wildcard-bounded _) (c .before .before .before .before .before .before .before .before .before .before .before .before .before .before .pre)))
 
 same-length : tie.Need-same-length
 same-length c = search needs
 
 returns : tie.Need-returns
 unfolding parseIfletIf
-returns c = node-read _ _ _ _ _ _ _ _ _ _ _ _ _ (c .before .before .close-at2 .ensures) (c .before .before .before .before .before .before .before .before .before .before .before .before .before .inside .ensures) (chain _ _ _ _ _ _ _ _ (c .before .before .before .before .before .before .parse-expr .ensures) (node-read _ _ _ _ _ _ _ _ _ _ _ _ _ (c .before .before .before .before .before .before .before .before .before .before .close-at .ensures) (c .before .before .before .before .before .before .before .before .before .before .before .before .inside2 .ensures) (nothing-read _ _ )))
+returns c = node-read _ _ _ _ _ _ _ _ _ _ _ _ _ (c .before .before .close-at2 .ensures) (c .before .before .before .before .before .before .before .before .before .before .before .before .before .inside .ensures) (chain _ _ _ _ _ _ _ _ (c .before .before .before .before .before .before .parse-expr .ensures) (node-read _ _ _ _ _ _ _ _ _ _ _ _ _ (c .before .before .before .before .before .before .before .before .before .before .close-at .ensures) (c .before .before .before .before .before .before .before .before .before .before .before .before .inside2 .ensures) (nothing-read _ _)))
 
 pub parse-iflet-if-spec : {M : Type 1} → statement M
 parse-iflet-if-spec =

@@ -14,7 +14,7 @@ same-length : tie.Need-same-length
 same-length c = search needs
 
 returns : tie.Need-returns
-returns c = bare-read _ _ _ _ _ _ _ _ _ (c .before .before .close .ensures) (c .before .before .before .inside .ensures) (nothing-read _ _ )
+returns c = bare-read _ _ _ _ _ _ _ _ _ (c .before .before .close .ensures) (c .before .before .before .inside .ensures) (nothing-read _ _)
 
 pub unit-fields-spec : {M : Type 1} → statement M
 unit-fields-spec = tie.close (tie.spec inside-requires close-requires same-length returns)
