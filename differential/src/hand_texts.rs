@@ -112,8 +112,6 @@ fn most_bytes() -> Vec<Case> {
 /// 7 when the token after the most becomes the lookahead, and not before.
 #[rustfmt::skip]
 fn most_tokens() -> Vec<Case> {
-    let after = |count: usize, tail: &str| filler(count) + tail;
-    let start = |count: usize| filler(count).len();
     let most = MAX_TOKENS;
     vec![
         (after(most, ""), 0, 0),
@@ -144,25 +142,24 @@ fn deepest() -> Vec<Case> {
     let terms = "(A ".repeat(DEEPEST);
     let inside = "(rule ".len() + terms.len();
     let before = MAX_TOKENS - 2 - 2 * DEEPEST;
-    let start = |count: usize| filler(count).len();
     vec![
         (format!("(rule {terms}"), 8, inside),
         (format!("(rule {terms}@"), 8, inside),
         (format!("(rule {terms}\u{c}"), 40, inside),
         (format!("(rule {terms}x \u{c}"), 8, inside),
         (
-            format!("{}(rule {terms}", filler(before)),
+            after(before, &format!("(rule {terms}")),
             8,
             start(before) + inside,
         ),
-        (format!("{}(rule {terms}x", filler(before)), 7, 0),
+        (after(before, &format!("(rule {terms}x")), 7, 0),
         (
-            format!("{}(rule {terms}\u{c}", filler(before)),
+            after(before, &format!("(rule {terms}\u{c}")),
             40,
             start(before) + inside,
         ),
         (
-            format!("{}(rule {terms}x", filler(before - 1)),
+            after(before - 1, &format!("(rule {terms}x")),
             8,
             start(before - 1) + inside,
         ),
@@ -172,8 +169,6 @@ fn deepest() -> Vec<Case> {
 /// A `$` alone for a constant about the last token that may be: 7 if the one behind it is too many.
 #[rustfmt::skip]
 fn dollar_last() -> Vec<Case> {
-    let after = |count: usize, tail: &str| filler(count) + tail;
-    let start = |count: usize| filler(count).len();
     let most = MAX_TOKENS;
     vec![
         (after(most - 4, "(rule 5 $ x"), 7, 0),
@@ -193,6 +188,16 @@ pub fn filler(tokens: usize) -> String {
     let variants = tokens - "( type E ( enum ) )".split(' ').count();
     let (three, one) = ("(A)".repeat(variants / 3), " A".repeat(variants % 3));
     format!("(type E (enum{three}{one}))")
+}
+
+/// More text behind an accepted one of so many tokens.
+fn after(tokens: usize, tail: &str) -> String {
+    filler(tokens) + tail
+}
+
+/// Where that text starts.
+fn start(tokens: usize) -> usize {
+    filler(tokens).len()
 }
 
 /// Each hand-written text with each spoiling piece put before its first token, and behind each of
