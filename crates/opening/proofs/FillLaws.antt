@@ -33,7 +33,7 @@ use Rattle.opening.specs.Made.{paramsAt}
 use Rattle.opening.specs.Walk.{Region, Ready, Room, Opened}
 use Rattle.opening.specs.Store.{extractorsIn, Source, Stored}
 use Rattle.opening.proofs.WroteLaws.{wrote-store, wrote-out, wrote-up, wrote-none, wrote-both, wrote-stop, wrote-keeps}
-use Rattle.opening.proofs.WalkLaws.{recs-part}
+use Rattle.opening.proofs.KeepLaws.{recs-part}
 use Rattle.opening.proofs.ReadyLaws.{fits-calls, templates-length, tree-records, leaves-span, others-at}
 
 -- ---- lists

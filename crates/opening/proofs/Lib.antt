@@ -1,7 +1,10 @@
 pub mod EndsLaws
 pub mod MadeLaws
 pub mod WroteLaws
+pub mod KeepLaws
+pub mod CalledLaws
 pub mod WalkLaws
+pub mod ScanLaws
 pub mod ReadyLaws
 pub mod FillLaws
 pub mod AnswerLaws

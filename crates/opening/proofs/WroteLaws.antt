@@ -11,7 +11,7 @@ use Rattle.records.specs.Slots.{slots, recAt, recsFrom, put, writes}
 use Rattle.records.proofs.Laws.{writes-append, length-put}
 use Rattle.records.proofs.Reading.{length-recsFrom}
 use Rattle.records.proofs.Readback.{Small, recs-put}
-use Rattle.opening.specs.Wrote.{target, Wrote, all, full}
+use Rattle.opening.specs.Wrote.{target, Appendable, Wrote, all, full}
 
 module _ (to : Bool) (space : ℕ) where
   pub wrote-store : (s o s′ o′ : List ℕ) (n y : ℕ) (l : List Rec) → Wrote to space s o n l s′ o′ y → length s′ ≡ length s
@@ -50,15 +50,15 @@ module _ (to : Bool) (space : ℕ) where
   pub append-full : (s o : List ℕ) (n : ℕ) (r : Rec) → n ≡ space → Wrote to space s o n (r ∷ []) s o (n + 1)
   append-full s o n r h = full refl refl (omega arith) (omega arith)
 
-pub append-out : (to : Bool) (space : ℕ) (s o o′ : List ℕ) (n : ℕ) (r : Rec) → to ≡ true → n ≤ space → (n ≡ space → ⊥) → space ≤ slots (target to s o) → o′ ≡ put o n r → Small r → Wrote to space s o n (r ∷ []) s o′ (n + 1)
+pub append-out : (to : Bool) (space : ℕ) (s o o′ : List ℕ) (n : ℕ) (r : Rec) → o′ ≡ put o n r → Small r → to ≡ true → Appendable to space s o n → (n ≡ space → ⊥) → Wrote to space s o n (r ∷ []) s o′ (n + 1)
 unfolding writes
-append-out true space s o o′ n r t h k l e m = all refl (ap length e ∙ length-put o n r) refl (omega arith) e (rw e (recs-put o n r (omega arith) m)) refl
-append-out false space s o o′ n r t h k l e m = absurd (let z : _≡_ {A = ℕ} 0 1 = cc in omega arith)
+append-out true space s o o′ n r e m t a k = all refl (ap length e ∙ length-put o n r) refl (omega (arith, a .fits)) e (rw e (recs-put o n r (omega (arith, a .fits, a .there)) m)) refl
+append-out false space s o o′ n r e m t a k = absurd (let z : _≡_ {A = ℕ} 0 1 = cc in omega arith)
 
-pub append-store : (to : Bool) (space : ℕ) (s o s′ : List ℕ) (n : ℕ) (r : Rec) → to ≡ false → n ≤ space → (n ≡ space → ⊥) → space ≤ slots (target to s o) → s′ ≡ put s n r → Small r → Wrote to space s o n (r ∷ []) s′ o (n + 1)
+pub append-store : (to : Bool) (space : ℕ) (s o s′ : List ℕ) (n : ℕ) (r : Rec) → s′ ≡ put s n r → Small r → to ≡ false → Appendable to space s o n → (n ≡ space → ⊥) → Wrote to space s o n (r ∷ []) s′ o (n + 1)
 unfolding writes
-append-store false space s o s′ n r t h k l e m = all (ap length e ∙ length-put s n r) refl refl (omega arith) e (rw e (recs-put s n r (omega arith) m)) refl
-append-store true space s o s′ n r t h k l e m = absurd (let z : _≡_ {A = ℕ} 0 1 = cc in omega arith)
+append-store false space s o s′ n r e m t a k = all (ap length e ∙ length-put s n r) refl refl (omega (arith, a .fits)) e (rw e (recs-put s n r (omega (arith, a .fits, a .there)) m)) refl
+append-store true space s o s′ n r e m t a k = absurd (let z : _≡_ {A = ℕ} 0 1 = cc in omega arith)
 
 -- ---- parts of what is kept
 

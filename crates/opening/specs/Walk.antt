@@ -14,7 +14,7 @@ use Rattle.grounds.specs.Leaves.{Leaves}
 use Rattle.grounds.specs.Table.{RowsOf}
 use Rattle.opening.specs.Wrote.{Wrote, target}
 use Rattle.opening.specs.Ends.{EndsFrom}
-use Rattle.opening.specs.Made.{paramsAt}
+use Rattle.opening.specs.Made.{paramsAt, callNumber}
 
 -- the records of the opened template o stand in the store from where `starts` says for x, up to where it says for the next; all below `base`
 pub record Region (starts store : List ℕ) (base x : ℕ) (o : Tree) : Type 0 where
@@ -40,12 +40,23 @@ pub record Ready (text t : List ℕ) (n : ℕ) (starts src ends : List ℕ) (pa 
   pub inside : i < slots src
   pub fits : (k : ℕ) → i ≤ k → k < endOf (recs src) i → (o : Tree) → calledAt text S (recAt src k) (drop (k + 1) (recs src)) ≡ some o → Every (Fits (recAt src k .count - 1)) o
 
+-- there are templates that are ready for the tree at the index i
+unfoldable pub Readied : List ℕ → List ℕ → ℕ → List ℕ → List ℕ → List ℕ → ℕ → ℕ → ℕ → List ℕ → Type 0
+Readied text t n starts src ends pa pc i s = (S : List (Named Tree)) × Ready text t n starts src ends pa pc i s S
+
 -- what is asked where records are appended after m of them; the first `base` records of the store are read
 pub record Room (outward : Bool) (space base : ℕ) (s o : List ℕ) (m : ℕ) : Type 0 where
   pub fits : m ≤ space
   pub there : space ≤ slots (target outward s o)
   pub low : outward ≡ false → base ≤ m
   pub most : space ≤ 65536
+
+-- what is asked where the template is appended that the record k of the source calls, the number x
+pub record Fillable (outward : Bool) (space : ℕ) (text t : List ℕ) (n : ℕ) (starts src ends : List ℕ) (pa pc k x : ℕ) (s o : List ℕ) (m : ℕ) : Type 0 where
+  pub readied : Readied text t n starts src ends pa pc k s
+  pub room : Room outward space (getD starts n 0) s o m
+  pub number : x ≡ callNumber text t n src k
+  pub below : x < n
 
 -- the tree at the index i of the source was opened
 unfoldable pub Opened : Bool → ℕ → List ℕ → List ℕ → ℕ → List ℕ → List ℕ → List ℕ → ℕ → ℕ → ℕ → List ℕ → List ℕ → ℕ → List ℕ → List ℕ → ℕ → Type 0

@@ -6,7 +6,7 @@ use Prim.Native.Nat.{ℕ, _+_, _<_, _≤_}
 use lib.ListN.{length}
 use Rattle.trees.specs.Choice.{pick}
 use Rattle.trees.specs.declared.Rec.{Rec}
-use Rattle.records.specs.Slots.{recsFrom, writes}
+use Rattle.records.specs.Slots.{slots, recsFrom, writes}
 
 -- the one that is written to, where the test says whether that is the output; and the other one
 abbrev pub target : Bool → List ℕ → List ℕ → List ℕ
@@ -14,6 +14,12 @@ target to store out = pick to out store
 
 abbrev pub other : Bool → List ℕ → List ℕ → List ℕ
 other to store out = pick to store out
+
+-- what is asked where a record is appended after n of them
+pub record Appendable (to : Bool) (space : ℕ) (s o : List ℕ) (n : ℕ) : Type 0 where
+  pub fits : n ≤ space
+  pub there : space ≤ slots (target to s o)
+  pub most : space ≤ 65536
 
 -- after n records the list l is appended; y records are then there
 pub data Wrote (to : Bool) (space : ℕ) (s o : List ℕ) (n : ℕ) (l : List Rec) (s′ o′ : List ℕ) (y : ℕ) : Type 0 where

@@ -2,12 +2,11 @@
 use records::rec_at;
 use records::slots;
 ghost use mathlib.Core.Path.{_≡_};
-ghost use Prim.Native.Nat.{_+_, _≤_, _<_};
-ghost use lib.ListN.{length, getD, drop};
-ghost use Rattle.trees.specs.Tree.{count, treesOf};
+ghost use Prim.Native.Nat.{_≤_, _<_};
+ghost use lib.ListN.{length, getD};
 ghost use Rattle.records.specs.Slots.{slots, recs};
-ghost use Rattle.expansion.specs.Flat.{span, Placed, All};
-ghost use Rattle.opening.specs.Ends.{EndsFrom};
+ghost use Rattle.expansion.specs.Flat.{Placed, All};
+ghost use Rattle.opening.specs.Ends.{EndsFrom, Hop, Childed, Child, behind};
 
 fn wide(x: u32) -> usize
     ensures { λ r. ⌜ r ≡ x ⌝ }
@@ -25,8 +24,8 @@ pub fn end_at(ends: &[u32], k: usize) -> usize
 
 // The index after the c trees of the source from the index `at` on, where `from` is the index after `last` of them.
 fn hop_from(src: &[u8], ends: &[u32], at: usize, from: usize, last: usize, c: usize) -> usize
-    requires { ⌜ EndsFrom (recs (now src)) (now ends) at × (slots (now src) ≤ length (now ends)) × (c ≤ count (treesOf (drop at (recs (now src))))) × (from ≡ at + span (drop at (recs (now src))) last) × (last ≤ c) ⌝ }
-    ensures { λ r. ⌜ r ≡ at + span (drop at (recs (now (src .entry)))) c ⌝ }
+    requires { ⌜ Hop (now src) (now ends) at from last c × (last ≤ c) ⌝ }
+    ensures { λ r. ⌜ r ≡ behind (now (src .entry)) at c ⌝ }
 {
     let mut a = from;
     let mut j = last;
@@ -39,21 +38,21 @@ fn hop_from(src: &[u8], ends: &[u32], at: usize, from: usize, last: usize, c: us
 
 // The index after the c trees of the source from the index `at` on.
 pub fn hop(src: &[u8], ends: &[u32], at: usize, c: usize) -> usize
-    requires { ⌜ EndsFrom (recs (now src)) (now ends) at × (slots (now src) ≤ length (now ends)) × (c ≤ count (treesOf (drop at (recs (now src))))) ⌝ }
-    ensures { λ r. ⌜ r ≡ at + span (drop at (recs (now (src .entry)))) c ⌝ }
+    requires { ⌜ Hop (now src) (now ends) at at 0 c ⌝ }
+    ensures { λ r. ⌜ r ≡ behind (now (src .entry)) at c ⌝ }
 {
     hop_from(src, ends, at, at, 0, c)
 }
 
-// The same, going on from the index after `last` trees if that is not too far: trees taken in their order are passed once each.
-pub fn hop_on(src: &[u8], ends: &[u32], at: usize, from: usize, last: usize, c: usize) -> usize
-    requires { ⌜ EndsFrom (recs (now src)) (now ends) at × (slots (now src) ≤ length (now ends)) × (c ≤ count (treesOf (drop at (recs (now src))))) × (from ≡ at + span (drop at (recs (now src))) last) ⌝ }
-    ensures { λ r. ⌜ r ≡ at + span (drop at (recs (now (src .entry)))) c ⌝ }
+// The index of the child c of the record k, from the index after `last` children on if that is not too far: children taken in their order are passed once each.
+pub fn child_at(src: &[u8], ends: &[u32], k: usize, from: usize, last: usize, c: usize) -> usize
+    requires { ⌜ Childed (now src) (now ends) k from last c ⌝ }
+    ensures { λ a. ⌜ Child (now (src .entry)) k c a ⌝ }
 {
     if last <= c {
-        return hop_from(src, ends, at, from, last, c);
+        return hop_from(src, ends, k + 1, from, last, c);
     }
-    hop(src, ends, at, c)
+    hop(src, ends, k + 1, c)
 }
 
 // Fills the table, from the last record back: each tree ends where its last child does.

@@ -6,15 +6,13 @@ use records::rec_at;
 use trees::Head;
 use trees::Rec;
 ghost use mathlib.Core.Path.{_≡_};
-ghost use Prim.Native.Nat.{_+_, _*_, _≤_, _<_};
-ghost use lib.ListN.{length, drop};
+ghost use Prim.Native.Nat.{_+_, _≤_};
+ghost use lib.ListN.{drop};
 ghost use Rattle.trees.specs.Names.{spelled};
-ghost use Rattle.records.specs.Slots.{slots, recAt, recs};
+ghost use Rattle.records.specs.Slots.{recAt, recs};
 ghost use Rattle.expansion.specs.Templates.{position};
-ghost use Rattle.expansion.specs.Flat.{standsAt, Placed, All};
-ghost use Rattle.grounds.specs.Leaves.{Leaves};
-ghost use Rattle.opening.specs.Ends.{EndsFrom};
-ghost use Rattle.opening.specs.Made.{paramsAt, Sought, MadeAt, callNumber};
+ghost use Rattle.expansion.specs.Flat.{standsAt};
+ghost use Rattle.opening.specs.Made.{paramsAt, Params, Located, Makeable, Callable, Sought, MadeAt, callNumber};
 
 // A record that is written, and the index of the source at which to go on.
 pub struct Made {
@@ -24,7 +22,7 @@ pub struct Made {
 
 // The index of the first of the pc parameters from the index pa on that has the name w, or pc.
 fn parameter(text: &[u8], src: &[u8], pa: usize, pc: usize, w: u64) -> usize
-    requires { ⌜ (pa + pc ≤ slots (now src)) × Leaves pc (drop pa (recs (now src))) ⌝ }
+    requires { ⌜ Params (now src) pa pc ⌝ }
     ensures { λ r. ⌜ Sought pc (position (now (text .entry)) (spelled (now (text .entry)) w) (paramsAt (now (src .entry)) pa pc)) r ⌝ }
 {
     let mut j = 0;
@@ -40,7 +38,7 @@ fn parameter(text: &[u8], src: &[u8], pa: usize, pc: usize, w: u64) -> usize
 
 // The parameter that the record k stands for, or pc.
 fn stands_at(text: &[u8], src: &[u8], pa: usize, pc: usize, k: usize) -> usize
-    requires { ⌜ (pa + pc ≤ slots (now src)) × Leaves pc (drop pa (recs (now src))) × (k < slots (now src)) × All Placed (recs (now src)) ⌝ }
+    requires { ⌜ Params (now src) pa pc × Located (now src) k ⌝ }
     ensures { λ r. ⌜ Sought pc (standsAt (now (text .entry)) (paramsAt (now (src .entry)) pa pc) (recAt (now (src .entry)) k) (drop (k + 1) (recs (now (src .entry))))) r ⌝ }
 {
     let r = rec_at(src, k);
@@ -51,17 +49,17 @@ fn stands_at(text: &[u8], src: &[u8], pa: usize, pc: usize, k: usize) -> usize
     if r.kind != Head::PATTERN_BIND {
         return pc;
     }
+    let name = rec_at(src, k + 1);
     let below = rec_at(src, k + 2);
     if below.kind != Head::PATTERN_WILDCARD {
         return pc;
     }
-    let name = rec_at(src, k + 1);
     parameter(text, src, pa, pc, name.word1)
 }
 
 // The record k, which is no call, as it is written.
 pub fn made_at(text: &[u8], src: &[u8], ends: &[u32], pa: usize, pc: usize, k: usize) -> Made
-    requires { ⌜ (pa + pc ≤ slots (now src)) × Leaves pc (drop pa (recs (now src))) × (k < slots (now src)) × All Placed (recs (now src)) × EndsFrom (recs (now src)) (now ends) 0 × (slots (now src) ≤ length (now ends)) ⌝ }
+    requires { ⌜ Makeable (now src) (now ends) pa pc k ⌝ }
     ensures { λ m. ⌜ MadeAt (now (text .entry)) (now (src .entry)) pa pc k m ⌝ }
 {
     let r = rec_at(src, k);
@@ -89,7 +87,7 @@ pub fn made_at(text: &[u8], src: &[u8], ends: &[u32], pa: usize, pc: usize, k: u
 
 // The number of the extractor that the record k calls among n, or n.
 pub fn call_at(text: &[u8], table: &[u64], n: usize, src: &[u8], k: usize) -> usize
-    requires { ⌜ (3 * n ≤ length (now table)) × (k < slots (now src)) × All Placed (recs (now src)) ⌝ }
+    requires { ⌜ Callable (now table) n (now src) k ⌝ }
     ensures { λ x. ⌜ (x ≡ callNumber (now (text .entry)) (now (table .entry)) n (now (src .entry)) k) × (x ≤ n) ⌝ }
 {
     let r = rec_at(src, k);

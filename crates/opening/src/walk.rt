@@ -1,27 +1,20 @@
 // Opening a tree of the source into the store or into the output. It stops as soon as the space is full.
+use crate::ends::child_at;
 use crate::ends::end_at;
-use crate::ends::hop_on;
 use crate::made::call_at;
 use crate::made::made_at;
 use records::put;
 use records::rec_at;
 use trees::Head;
 use trees::Rec;
-ghost use mathlib.Core.Path.{_≡_};
-ghost use mathlib.Core.List.{List, [], _∷_};
-ghost use Prim.Native.Nat.{ℕ, _+_, _*_, _-_, _≤_, _<_};
+ghost use mathlib.Core.List.{[], _∷_};
 ghost use lib.ListN.{getD};
-ghost use Rattle.trees.specs.Tree.{Tree};
-ghost use Rattle.records.specs.Slots.{slots, recs};
-ghost use Rattle.expansion.specs.Expansion.{Named};
-ghost use Rattle.expansion.specs.Flat.{endOf};
-ghost use Rattle.opening.specs.Wrote.{target, Wrote};
-ghost use Rattle.opening.specs.Made.{callNumber};
-ghost use Rattle.opening.specs.Walk.{Ready, Room, Opened, Filled};
+ghost use Rattle.opening.specs.Wrote.{Appendable, Wrote};
+ghost use Rattle.opening.specs.Walk.{Readied, Room, Fillable, Opened, Filled};
 
 // Appends the record r after n of them, if there is space for it: how many there are then, or space + 1.
 fn append(store: &mut [u8], out: &mut [u8], outward: bool, n: usize, space: usize, r: Rec) -> usize
-    requires { ⌜ (n ≤ space) × (space ≤ slots (target outward (now store) (now out))) × (space ≤ 65536) ⌝ }
+    requires { ⌜ Appendable outward space (now store) (now out) n ⌝ }
     ensures { λ y. ⌜ Wrote outward space (now (store .entry)) (now (out .entry)) n (r ∷ []) (now (store .exit)) (now (out .exit)) y ⌝ }
 {
     if n == space {
@@ -53,7 +46,7 @@ fn scan(
     m: usize,
     space: usize,
 ) -> usize
-    requires { ⌜ ((S : List (Named Tree)) × Ready (now text) (now table) n (now starts) (now src) (now ends) pa pc k (now store) S) × Room outward space (getD (now starts) n 0) (now store) (now out) m × (x ≡ callNumber (now text) (now table) n (now src) k) × (x < n) ⌝ }
+    requires { ⌜ Fillable outward space (now text) (now table) n (now starts) (now src) (now ends) pa pc k x (now store) (now out) m ⌝ }
     ensures { λ y. ⌜ Filled outward space (now (text .entry)) (now (table .entry)) n (now (starts .entry)) (now (src .entry)) (now (ends .entry)) pa pc k (now (store .entry)) (now (out .entry)) m (now (store .exit)) (now (out .exit)) y ⌝ }
 {
     let end = starts[x + 1];
@@ -65,7 +58,7 @@ fn scan(
         let r = rec_at(store, j);
         if r.kind == Head::PATTERN_MACRO_ARG {
             let c = r.word1 as usize + 1;
-            from = hop_on(src, ends, k + 1, from, last, c);
+            from = child_at(src, ends, k, from, last, c);
             last = c;
             y = open_one(
                 text,
@@ -115,7 +108,7 @@ pub fn open_one(
     m: usize,
     space: usize,
 ) -> usize
-    requires { ⌜ ((S : List (Named Tree)) × Ready (now text) (now table) n (now starts) (now src) (now ends) pa pc i (now store) S) × Room outward space (getD (now starts) n 0) (now store) (now out) m ⌝ }
+    requires { ⌜ Readied (now text) (now table) n (now starts) (now src) (now ends) pa pc i (now store) × Room outward space (getD (now starts) n 0) (now store) (now out) m ⌝ }
     ensures { λ y. ⌜ Opened outward space (now (text .entry)) (now (table .entry)) n (now (starts .entry)) (now (src .entry)) (now (ends .entry)) pa pc i (now (store .entry)) (now (out .entry)) m (now (store .exit)) (now (out .exit)) y ⌝ }
 {
     let mut todo = 1;

@@ -1,16 +1,11 @@
 use borrow.Author.Needs.{needs}
-use Prim.Native.Nat.{_≤_}
-use mathlib.Core.Path.{_≡_, refl, _∙_}
 use native.Mathlib.Omega.{arith}
-use lib.ListN.{length, length-set}
-use Rattle.records.specs.Slots.{slots, recs}
-use Rattle.opening.specs.Ends.{EndsFrom}
-use Rattle.opening.proofs.EndsLaws.{ends-start, ends-from, ends-kids, ends-small, ends-next, ends-all}
+use Rattle.opening.proofs.EndsLaws.{Ending, ending-start, ending-hop, ending-fits, ending-next, ending-end}
 use Rattle.opening.proofs.ends.fill_ends.Statement.{statement}
 use Rattle.opening.proofs.ends.fill_ends.Tie as tie
 
 abbrev Inv-loop : tie.InvT-loop
-Inv-loop src ends₀ i₀ ends i = (i ≤ slots src) × EndsFrom (recs src) ends i × (length ends ≡ length ends₀)
+Inv-loop src ends₀ i₀ ends i = Ending src ends₀ ends i
 
 abbrev μ-loop : tie.MeasureT-loop
 μ-loop src ends₀ i₀ ends i = i
@@ -19,13 +14,13 @@ slots-requires : tie.Need-slots-requires Inv-loop μ-loop
 slots-requires c κs = search needs
 
 loop-holds : tie.Need-loop-holds Inv-loop μ-loop
-loop-holds c = (omega (arith, (c .slots .ensures)), ends-start _ _ _ (c .slots .ensures), refl)
+loop-holds c = search ending-start
 
 sub-i : tie.Need-sub-i Inv-loop μ-loop
 sub-i c = search needs
 
 rec-at-requires : tie.Need-rec-at-requires Inv-loop μ-loop
-rec-at-requires c κs = omega (arith, (c .before .loop .inv) .0)
+rec-at-requires c κs = omega arith
 
 add-hop : tie.Need-add-hop Inv-loop μ-loop
 add-hop c = search needs
@@ -34,28 +29,28 @@ cast-hop : tie.Need-cast-hop Inv-loop μ-loop
 cast-hop c = search needs
 
 hop-requires : tie.Need-hop-requires Inv-loop μ-loop
-hop-requires c κs = (ends-from _ _ _ (omega arith) ((c .before .before .before .before .loop .inv) .1), omega (arith, (c .before .before .before .before .loop .inv) .2, (c .before .before .before .before .before .before .before .before .pre) .2), ends-kids _ _ _ (c .before .before .rec-at .ensures) (omega (arith, (c .before .before .before .before .loop .inv) .0)) ((c .before .before .before .before .before .before .before .before .pre) .0))
+hop-requires c κs = search ending-hop
 
 cast-ends : tie.Need-cast-ends Inv-loop μ-loop
-cast-ends c = omega (arith, ends-small _ _ _ (c .before .before .before .rec-at .ensures) (omega (arith, (c .before .before .before .before .before .loop .inv) .0)) _ (c .hop .ensures), (c .before .before .before .before .before .before .before .before .before .pre) .1)
+cast-ends c = search ending-fits
 
 mul-ends : tie.Need-mul-ends Inv-loop μ-loop
-mul-ends c = omega (arith, (c .before .before .before .before .before .loop .inv) .0, (c .before .before .before .before .before .before .before .before .before .pre) .1)
+mul-ends c = omega arith
 
 slice-write-ends : tie.Need-slice-write-ends Inv-loop μ-loop
-slice-write-ends c = omega (arith, (c .before .before .before .before .before .loop .inv) .0, (c .before .before .before .before .before .loop .inv) .2, (c .before .before .before .before .before .before .before .before .before .pre) .2)
+slice-write-ends c = omega arith
 
 loop-less : tie.Need-loop-less Inv-loop μ-loop
 loop-less c = search needs
 
 loop-again : tie.Need-loop-again Inv-loop μ-loop
-loop-again c = (omega (arith, (c .before .before .before .before .before .loop .inv) .0), ends-next _ _ _ (c .before .before .before .rec-at .ensures) (omega (arith, (c .before .before .before .before .before .loop .inv) .0)) _ (c .hop .ensures) _ (ends-from _ _ _ (omega arith) ((c .before .before .before .before .before .loop .inv) .1)) (omega (arith, (c .before .before .before .before .before .loop .inv) .2, (c .before .before .before .before .before .before .before .before .before .pre) .2)), simp length-set ((c .before .before .before .before .before .loop .inv) .2))
+loop-again c = search ending-next
 
 same-length : tie.Need-same-length Inv-loop μ-loop
-same-length c = (c .before .loop .inv) .2
+same-length c = omega arith
 
 returns : tie.Need-returns Inv-loop μ-loop
-returns c = ends-all _ _ _ (omega arith) ((c .before .loop .inv) .1)
+returns c = search ending-end
 
 pub fill-ends-spec : {M : Type 1} → statement M
 fill-ends-spec =

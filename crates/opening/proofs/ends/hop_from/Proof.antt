@@ -1,16 +1,13 @@
 use borrow.Author.Needs.{needs}
-use Prim.Native.Nat.{_≤_, _+_, _-_}
-use mathlib.Core.Path.{_≡_, _∙_}
-use native.Mathlib.Omega.{arith}
-use lib.ListN.{drop}
-use Rattle.records.specs.Slots.{recs}
-use Rattle.expansion.specs.Flat.{span}
-use Rattle.opening.proofs.EndsLaws.{hop-inside, hop-next, hop-done}
+use Prim.Native.Nat.{_≤_, _-_}
+use mathlib.Core.Path.{_≡_}
+use Rattle.opening.specs.Ends.{behind}
+use Rattle.opening.proofs.EndsLaws.{hop-long, hop-next, hop-done}
 use Rattle.opening.proofs.ends.hop_from.Statement.{statement}
 use Rattle.opening.proofs.ends.hop_from.Tie as tie
 
 abbrev Inv-loop : tie.InvT-loop
-Inv-loop src ends at from last c a₀ j₀ a j = (j ≤ c) × (a ≡ at + span (drop at (recs src)) j)
+Inv-loop src ends at from last c a₀ j₀ a j = (j ≤ c) × (a ≡ behind src at j)
 
 abbrev μ-loop : tie.MeasureT-loop
 μ-loop src ends at from last c a₀ j₀ a j = c - j
@@ -19,7 +16,7 @@ loop-holds : tie.Need-loop-holds Inv-loop μ-loop
 loop-holds c = (search needs, search needs)
 
 end-at-requires : tie.Need-end-at-requires Inv-loop μ-loop
-end-at-requires c κs = omega (arith, hop-inside _ _ _ _ _ ((c .before .before .before .before .pre) .2) ((c .before .loop .inv) .1) (omega arith), (c .before .before .before .before .pre) .1)
+end-at-requires c κs = search hop-long
 
 add-j : tie.Need-add-j Inv-loop μ-loop
 add-j c = search needs
@@ -28,10 +25,10 @@ loop-less : tie.Need-loop-less Inv-loop μ-loop
 loop-less c = search needs
 
 loop-again : tie.Need-loop-again Inv-loop μ-loop
-loop-again c = (search needs, (c .end-at .ensures) ∙ hop-next _ _ _ _ _ _ ((c .before .before .before .before .before .pre) .0) ((c .before .before .before .before .before .pre) .2) ((c .before .before .loop .inv) .1) (omega arith))
+loop-again c = (search needs, search hop-next)
 
 returns : tie.Need-returns Inv-loop μ-loop
-returns c = hop-done _ _ _ _ _ ((c .before .loop .inv) .1) ((c .before .loop .inv) .0) (omega arith)
+returns c = search hop-done
 
 pub hop-from-spec : {M : Type 1} → statement M
 hop-from-spec =

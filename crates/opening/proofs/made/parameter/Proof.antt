@@ -1,6 +1,5 @@
 use borrow.Author.Needs.{needs}
 use Prim.Native.Nat.{_-_}
-use native.Mathlib.Omega.{arith}
 use Rattle.opening.proofs.MadeLaws.{Seeking, seeking-start, seeking-end, seeking-here, seeking-next}
 use Rattle.opening.proofs.made.parameter.Statement.{statement}
 use Rattle.opening.proofs.made.parameter.Tie as tie
@@ -12,7 +11,7 @@ abbrev μ-loop : tie.MeasureT-loop
 μ-loop text src pa pc w j₀ j = pc - j
 
 loop-holds : tie.Need-loop-holds Inv-loop μ-loop
-loop-holds c = seeking-start _ _ _ _ _ ((c .before .before .pre) .1)
+loop-holds c = search seeking-start
 
 add-rec-at : tie.Need-add-rec-at Inv-loop μ-loop
 add-rec-at c = search needs
@@ -24,7 +23,7 @@ same-name-requires : tie.Need-same-name-requires Inv-loop μ-loop
 same-name-requires c κs = search needs
 
 returns : tie.Need-returns Inv-loop μ-loop
-returns c = seeking-here _ _ _ _ _ _ (c .before .before .before .before .loop .inv) _ (c .before .before .rec-at .ensures) _ (c .before .same-name .ensures) (omega arith) ((c .before .before .before .before .before .before .before .pre) .0) (c .if1 .taken)
+returns c = search seeking-here
 
 add-j : tie.Need-add-j Inv-loop μ-loop
 add-j c = search needs
@@ -33,10 +32,10 @@ loop-less : tie.Need-loop-less Inv-loop μ-loop
 loop-less c = search needs
 
 loop-again : tie.Need-loop-again Inv-loop μ-loop
-loop-again c = seeking-next _ _ _ _ _ _ (c .before .before .before .before .loop .inv) _ (c .before .before .rec-at .ensures) _ (c .before .same-name .ensures) (omega arith) ((c .before .before .before .before .before .before .before .pre) .0) (c .if1 .left)
+loop-again c = search seeking-next
 
 returns-2 : tie.Need-returns-2 Inv-loop μ-loop
-returns-2 c = seeking-end _ _ _ _ _ _ (c .before .loop .inv) (omega arith)
+returns-2 c = search seeking-end
 
 pub parameter-spec : {M : Type 1} → statement M
 parameter-spec =

@@ -3,6 +3,7 @@ use Prim.Native.Nat.{_-_}
 use mathlib.Core.Path.{_≡_, refl, _∙_}
 use native.Mathlib.Omega.{arith}
 use lib.ListN.{length, length-set}
+use Rattle.opening.specs.Walk.{Readied}
 use Rattle.opening.proofs.WroteLaws.{wrote-store, wrote-out}
 use Rattle.opening.proofs.FillLaws.{Filling, filling-start, filling-end, filling-inside, filling-room, filling-ready, filling-store, filling-out, filling-full, filling-next}
 use Rattle.opening.proofs.store.fill_store.Statement.{statement}
@@ -54,6 +55,7 @@ add-open-one-3 : tie.Need-add-open-one-3 Inv-loop μ-loop
 add-open-one-3 c = omega (arith, filling-inside _ _ _ _ _ _ _ _ _ _ _ _ _ _ ((c .before .before .before .before .before .before .before .before .before .before .before .before .before .before .pre) .0) (c .before .before .before .before .before .before .loop .inv) (omega arith), (c .before .before .before .before .before .before .before .before .before .before .before .before .before .before .pre) .0 .small)
 
 open-one-requires : tie.Need-open-one-requires Inv-loop μ-loop
+unfolding Readied
 open-one-requires c κs = ((_, filling-ready _ _ _ _ _ _ _ _ _ _ _ _ _ _ ((c .before .before .before .before .before .before .before .before .before .before .before .before .before .before .pre) .0) (c .before .before .before .before .before .before .loop .inv) (omega arith) (simp length-set ((c .before .before .before .before .before .before .before .before .before .before .before .before .before .before .pre) .1)) ((c .before .before .before .before .before .before .before .before .before .before .before .before .before .before .pre) .2) ((c .before .before .before .before .before .before .before .before .before .before .before .before .before .before .pre) .3)), filling-room _ _ _ _ _ _ _ _ _ _ _ _ _ _ ((c .before .before .before .before .before .before .before .before .before .before .before .before .before .before .pre) .0) (c .before .before .before .before .before .before .loop .inv) (omega arith) (simp length-set ((c .before .before .before .before .before .before .before .before .before .before .before .before .before .before .pre) .1)) ((c .before .before .before .before .before .before .before .before .before .before .before .before .before .before .pre) .2) ((c .before .before .before .before .before .before .before .before .before .before .before .before .before .before .pre) .3))
 
 same-length : tie.Need-same-length Inv-loop μ-loop

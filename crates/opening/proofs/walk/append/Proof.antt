@@ -1,7 +1,5 @@
-use native.Mathlib.Omega.{arith}
-use Rattle.records.proofs.Readback.{Small}
-use Rattle.opening.proofs.WroteLaws.{append-full, append-out, append-store}
 use borrow.Author.Needs.{needs}
+use Rattle.opening.proofs.WroteLaws.{append-full, append-out, append-store}
 use Rattle.opening.proofs.walk.append.Statement.{statement}
 use Rattle.opening.proofs.walk.append.Tie as tie
 
@@ -9,7 +7,7 @@ add-result : tie.Need-add-result
 add-result c = search needs
 
 returns : tie.Need-returns
-returns c = append-full _ _ _ _ _ _ (c .if1 .taken)
+returns c = search append-full
 
 put-requires : tie.Need-put-requires
 put-requires c κs = search needs
@@ -21,7 +19,7 @@ same-length : tie.Need-same-length
 same-length c = search needs
 
 returns-2 : tie.Need-returns-2
-returns-2 c = append-out _ _ _ _ _ _ _ (c .before .before .before .before .if2 .taken) ((c .before .before .before .before .before .before .before .before .pre) .0) (c .before .before .before .before .before .if1 .left) ((c .before .before .before .before .before .before .before .before .pre) .1) (c .before .before .put .ensures) (search needs)
+returns-2 c = search append-out
 
 put-requires-2 : tie.Need-put-requires-2
 put-requires-2 c κs = search needs
@@ -33,7 +31,7 @@ same-length-2 : tie.Need-same-length-2
 same-length-2 c = search needs
 
 returns-3 : tie.Need-returns-3
-returns-3 c = append-store _ _ _ _ _ _ _ (c .before .before .before .before .if2 .left) ((c .before .before .before .before .before .before .before .before .pre) .0) (c .before .before .before .before .before .if1 .left) ((c .before .before .before .before .before .before .before .before .pre) .1) (c .before .before .put2 .ensures) (search needs)
+returns-3 c = search append-store
 
 pub append-spec : {M : Type 1} → statement M
 append-spec =

@@ -1,5 +1,5 @@
 use native.Mathlib.Omega.{arith}
-use Rattle.opening.specs.Walk.{Opened}
+use Rattle.opening.specs.Walk.{Readied, Opened}
 use Rattle.opening.specs.Answers.{ReadyFor, PatternOpened}
 use borrow.Author.Needs.{needs}
 use Rattle.opening.proofs.whole.open_pattern.Statement.{statement}
@@ -9,7 +9,7 @@ fill-ends-requires : tie.Need-fill-ends-requires
 fill-ends-requires c κs = search needs
 
 open-one-requires : tie.Need-open-one-requires
-unfolding ReadyFor
+unfolding ReadyFor Readied
 open-one-requires c κs = (((c .before .before .before .before .before .before .before .before .before .before .before .before .before .before .pre) .0 .0, (c .before .before .before .before .before .before .before .before .before .before .before .before .before .before .pre) .0 .1 _ (c .before .before .before .before .before .fill-ends .ensures) (omega (arith, (c .before .before .before .before .before .before .before .before .before .before .before .before .before .before .pre) .2, (c .before .before .before .before .before .before .before .before .before .before .before .before .before .before .pre) .3))), (c .before .before .before .before .before .before .before .before .before .before .before .before .before .before .pre) .4)
 
 same-length : tie.Need-same-length
