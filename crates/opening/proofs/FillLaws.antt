@@ -6,6 +6,8 @@ use mathlib.Core.List.{List, [], _∷_, _++_, append-assoc, append-nil}
 use Prim.Native.Nat.{ℕ, zero, suc, _+_, _-_, _*_, _<_, _≤_}
 use native.Mathlib.Nat.{add-zero, zero-add}
 use native.Mathlib.Omega.{arith}
+use mir.Syntax.{w64}
+use mir.Val.{Fits}
 use lib.ListN.{length, getD, set, drop, length-append, length-set}
 use lib.Seq.{drop-drop, drop-append-le, getD-set-same, getD-set-other}
 use Rattle.trees.specs.declared.Rec.{Rec}
@@ -30,7 +32,7 @@ use Rattle.grounds.proofs.At.{drop-from, here, length-recs, end-upto}
 use Rattle.grounds.proofs.JudgeLaws.{tree-inside, row-is}
 use Rattle.opening.specs.Wrote.{Wrote, all, full}
 use Rattle.opening.specs.Made.{paramsAt}
-use Rattle.opening.specs.Walk.{Region, Ready, Room, Opened}
+use Rattle.opening.specs.Walk.{Region, Ready, Readied, Room, Opened}
 use Rattle.opening.specs.Store.{extractorsIn, Source, Stored}
 use Rattle.opening.proofs.WroteLaws.{wrote-store, wrote-out, wrote-up, wrote-none, wrote-both, wrote-stop, wrote-keeps}
 use Rattle.opening.proofs.KeepLaws.{recs-part}
@@ -103,7 +105,9 @@ place-of text defs t x e a b r =
 
 -- ---- the loop over the extractors
 
+-- the templates of the first x extractors are in the store, `used` records
 pub record Filling (space : ℕ) (text t : List ℕ) (n : ℕ) (defs ends s₀ o₀ starts₀ starts s o : List ℕ) (x used : ℕ) : Type 0 where
+  pub source : Source text t n defs ends
   pub first : Extractors
   pub later : Extractors
   pub split : extractorsIn text defs ≡ first ++ later
@@ -112,24 +116,39 @@ pub record Filling (space : ℕ) (text t : List ℕ) (n : ℕ) (defs ends s₀ o
   pub rows : RowsOf (Region starts s used) text t 0 (openedTemplates text first)
   pub last : getD starts x 0 ≡ used
   pub room : used ≤ space
+  pub there : space ≤ slots s
+  pub most : space ≤ 65536
+  pub long : n < length starts
   pub starts-same : length starts ≡ length starts₀
+  pub store-same : length s ≡ length s₀
+  pub out-same : length o ≡ length o₀
 
-pub filling-start : (space : ℕ) (text t : List ℕ) (n : ℕ) (defs ends s₀ o₀ entry starts₀ : List ℕ) → 0 < length entry → length (set entry 0 0) ≡ length starts₀ → Filling space text t n defs ends s₀ o₀ starts₀ (set entry 0 0) s₀ o₀ 0 0
+pub filling-start : (space : ℕ) (text t : List ℕ) (n : ℕ) (defs ends s o starts : List ℕ) → Source text t n defs ends → n < length starts → space ≤ slots s → space ≤ 65536 → getD starts 0 0 ≡ 0
+    → Filling space text t n defs ends s o starts starts s o 0 0
 unfolding openedTemplates inOrder storeRecords
-filling-start space text t n defs ends s₀ o₀ entry starts₀ h l =
+filling-start space text t n defs ends s o starts source long there most begun =
     record {
+      source = source;
       first = [];
       later = extractorsIn text defs;
       split = refl;
       sized = refl;
-      wrote = wrote-none false space s₀ o₀ 0 (omega arith);
+      wrote = wrote-none false space s o 0 (omega arith);
       rows = tt;
-      last = getD-set-same entry 0 0 0 h;
+      last = begun;
       room = omega arith;
-      starts-same = l;
+      there = there;
+      most = most;
+      long = long;
+      starts-same = refl;
+      store-same = refl;
+      out-same = refl;
     }
 
-module _ (space : ℕ) (text t : List ℕ) (n : ℕ) (defs ends s₀ o₀ starts₀ starts s o : List ℕ) (x used : ℕ) (source : Source text t n defs ends) (g : Filling space text t n defs ends s₀ o₀ starts₀ starts s o x used) where
+module _ (space : ℕ) (text t : List ℕ) (n : ℕ) (defs ends s₀ o₀ starts₀ starts s o : List ℕ) (x used : ℕ) (g : Filling space text t n defs ends s₀ o₀ starts₀ starts s o x used) where
+  source : Source text t n defs ends
+  source = g .source
+
   total : x + length (g .later) ≡ n
   total = omega (arith, g .sized, ap length (g .split), length-append (g .first) (g .later), source .table .size)
 
@@ -142,6 +161,9 @@ module _ (space : ℕ) (text t : List ℕ) (n : ℕ) (defs ends s₀ o₀ starts
           let q : extractorsIn text defs ≡ g .first = g .split ∙ ap (g .first ++_) e ∙ append-nil (g .first) in
           let m : x ≡ n = omega (arith, total) in
           record { wrote = rw q (g .wrote); rows = λ l. rw q (g .rows); last = λ l. rw (← m) (g .last) }
+
+  pub filling-room : Room false space (getD starts x 0) s o used
+  filling-room = record { fits = g .room; there = g .there; low = λ e. omega (arith, g .last); most = g .most }
 
   module _ (more : x < n) where
     next-one : (e : Named Extractor) × (F : Extractors) × (g .later ≡ e ∷ F)
@@ -165,8 +187,13 @@ module _ (space : ℕ) (text t : List ℕ) (n : ℕ) (defs ends s₀ o₀ starts
     place : Place t defs x this
     place = place-of text defs t x this (source .placed) (source .extractors-placed) row
 
-    pub filling-inside : placeIn t x + 2 + arityIn t x < slots defs
-    filling-inside = place .inside
+    -- the indices of its parameters and of its pattern
+
+    pub filling-params : Fits w64 (placeIn t x + 2)
+    filling-params = record { fits = omega (arith, place .inside, source .small) }
+
+    pub filling-pattern : Fits w64 (placeIn t x + 2 + arityIn t x)
+    filling-pattern = record { fits = omega (arith, place .inside, source .small) }
 
     abbrev S : List (Named Tree)
     S = openedTemplates text (g .first)
@@ -180,140 +207,140 @@ module _ (space : ℕ) (text t : List ℕ) (n : ℕ) (defs ends s₀ o₀ starts
         fine-by : (E : Extractors) → extractorsIn text defs ≡ E → AllFine text (extractorsIn text defs) [] E
         fine-by E e = rw (← e) (source .fine)
 
-    module _ (long : n < length starts₀) (there : space ≤ slots s₀) (most : space ≤ 65536) where
-      same-size : length s ≡ length s₀
-      same-size = wrote-store false space s₀ o₀ s o 0 used (storeRecords (openedTemplates text (g .first))) (g .wrote)
+    ready : Ready text t x starts defs ends (placeIn t x + 2) (arityIn t x) (placeIn t x + 2 + arityIn t x) s S
+    ready =
+        record {
+          rows = rw (g .last) (g .rows);
+          sized = templates-length text (g .first) ∙ g .sized;
+          long = omega (arith, source .table .few, source .table .long);
+          starts-long = omega (arith, g .long);
+          base-in = rw (g .last) (omega (arith, g .room, g .there));
+          base-small = omega (arith, g .last, g .room, g .most);
+          placed = source .placed;
+          small = source .small;
+          ended = source .ended;
+          ends-long = source .ends-long;
+          params = place .leaves;
+          params-in = omega (arith, place .inside);
+          inside = place .inside;
+          fits = λ k h l o c.
+              fits-calls text (g .first) (fine-first text (g .first) (this ∷ next-one .1) (rw divided at (source .fine))) defs (source .placed) (placeIn t x + 2 + arityIn t x) (this .value .pattern) (place .others-after) (place .tree) counts k h l
+              (omega (arith, end-upto (recs defs) (placeIn t x + 2 + arityIn t x) (recAt defs (placeIn t x + 2 + arityIn t x)) (here defs (placeIn t x + 2 + arityIn t x) (place .inside)), length-recs defs)) o c;
+        }
 
-      pub filling-room : Room false space (getD starts x 0) s o used
-      filling-room = record { fits = g .room; there = rw same-size there; low = λ e. omega (arith, g .last); most = most }
+    pub filling-readied : Readied text t x starts defs ends (placeIn t x + 2) (arityIn t x) (placeIn t x + 2 + arityIn t x) s
+    unfolding Readied
+    filling-readied = (S, ready)
 
-      pub filling-ready : Ready text t x starts defs ends (placeIn t x + 2) (arityIn t x) (placeIn t x + 2 + arityIn t x) s (openedTemplates text (g .first))
-      filling-ready =
+    module _ (s₁ o₁ : List ℕ) (y : ℕ) (opened : Opened false space text t x starts defs ends (placeIn t x + 2) (arityIn t x) (placeIn t x + 2 + arityIn t x) s o used s₁ o₁ y) where
+      abbrev content : List Rec
+      content = openedAt text S (paramsAt defs (placeIn t x + 2) (arityIn t x)) (recs defs) (placeIn t x + 2 + arityIn t x) 1
+
+      w : Wrote false space s o used content s₁ o₁ y
+      unfolding Opened
+      w = opened S ready
+
+      store-same : length s₁ ≡ length s
+      store-same = wrote-store false space s o s₁ o₁ used y content w
+
+      -- the template that was opened
+      listed : drop (placeIn t x + 2 + arityIn t x) (recs defs) ≡ records (this .value .pattern) ++ recordsAll (place .others-after)
+      listed = tree-records defs (placeIn t x + 2 + arityIn t x) (this .value .pattern) (place .others-after) (source .placed) (place .tree)
+
+      content-is : content ≡ openedRecords text S (this .value .params) (records (this .value .pattern) ++ recordsAll (place .others-after)) 1
+      content-is = ap (λ (rs : List Rec). openedRecords text S (paramsAt defs (placeIn t x + 2) (arityIn t x)) rs 1) listed ∙ ap (λ (ps : Trees). openedRecords text S ps (records (this .value .pattern) ++ recordsAll (place .others-after)) 1) (sym (place .params))
+
+      template-is : content ≡ records (openTemplate text S (this .value))
+      template-is = content-is ∙ opened-template text S (this .value) (recordsAll (place .others-after))
+
+      both : Wrote false space s₀ o₀ 0 (storeRecords (openedTemplates text (g .first)) ++ content) s₁ o₁ y
+      both = wrote-both false space s₀ o₀ s o s₁ o₁ 0 used y (storeRecords (openedTemplates text (g .first))) content (g .room) (g .wrote) w
+
+      store-is : storeRecords (openedTemplates text (g .first ++ (this ∷ []))) ≡ storeRecords (openedTemplates text (g .first)) ++ content
+      store-is = store-next text (g .first) this (recordsAll (place .others-after)) ∙ ap (storeRecords (openedTemplates text (g .first)) ++_) (sym content-is)
+
+      pub filling-full : space < y → Stored space text t n defs s₀ o₀ starts s₁ o₁ y
+      filling-full h =
+          let m = templates-more text (next-one .1) (g .first ++ (this ∷ [])) in
+          let e : openedTemplates text (extractorsIn text defs) ≡ openedTemplates text (g .first ++ (this ∷ [])) ++ m .0 =
+          ap (openedTemplates text) (divided ∙ sym (append-assoc (g .first) (this ∷ []) (next-one .1))) ∙ m .1 in
+          let q : storeRecords (openedTemplates text (extractorsIn text defs)) ≡ (storeRecords (openedTemplates text (g .first)) ++ content) ++ storeRecords (m .0) =
+          ap storeRecords e ∙ store-append (openedTemplates text (g .first ++ (this ∷ []))) (m .0) ∙ ap (_++ storeRecords (m .0)) store-is in
           record {
-            rows = rw (g .last) (g .rows);
-            sized = templates-length text (g .first) ∙ g .sized;
-            long = omega (arith, source .table .few, source .table .long);
-            starts-long = omega (arith, g .starts-same);
-            base-in = rw (g .last, same-size) (omega (arith, g .room));
-            base-small = omega (arith, g .last, g .room);
-            placed = source .placed;
-            small = source .small;
-            ended = source .ended;
-            ends-long = source .ends-long;
-            params = place .leaves;
-            params-in = omega (arith, place .inside);
-            inside = place .inside;
-            fits = λ k h l o c.
-                fits-calls text (g .first) (fine-first text (g .first) (this ∷ next-one .1) (rw divided at (source .fine))) defs (source .placed) (placeIn t x + 2 + arityIn t x) (this .value .pattern) (place .others-after) (place .tree) counts k h l
-                (omega (arith, end-upto (recs defs) (placeIn t x + 2 + arityIn t x) (recAt defs (placeIn t x + 2 + arityIn t x)) (here defs (placeIn t x + 2 + arityIn t x) (place .inside)), length-recs defs)) o c;
+            wrote = rw q (wrote-stop false space s₀ o₀ s₁ o₁ 0 y (storeRecords (openedTemplates text (g .first)) ++ content) (storeRecords (m .0)) h both);
+            rows = λ l. absurd (omega arith);
+            last = λ l. absurd (omega arith);
           }
 
-      module _ (s₁ o₁ : List ℕ) (y : ℕ) (opened : Opened false space text t x starts defs ends (placeIn t x + 2) (arityIn t x) (placeIn t x + 2 + arityIn t x) s o used s₁ o₁ y) where
-        abbrev content : List Rec
-        content = openedAt text S (paramsAt defs (placeIn t x + 2) (arityIn t x)) (recs defs) (placeIn t x + 2 + arityIn t x) 1
+      module _ (fits : y ≤ space) where
+        abbrev starts′ : List ℕ
+        starts′ = set starts (x + 1) y
 
-        w : Wrote false space s o used content s₁ o₁ y
-        unfolding Opened
-        w = opened S filling-ready
+        old-start : (z : ℕ) → z ≤ x → getD starts′ z 0 ≡ getD starts z 0
+        old-start z h = getD-set-other starts (x + 1) z y 0 (λ e. omega arith)
 
-        pub filling-store : length s₁ ≡ length s₀
-        filling-store = wrote-store false space s o s₁ o₁ used y content w ∙ same-size
+        new-start : getD starts′ (x + 1) 0 ≡ y
+        new-start = getD-set-same starts (x + 1) y 0 (omega (arith, g .long))
 
-        pub filling-out : length o₁ ≡ length o₀
-        filling-out = wrote-out false space s o s₁ o₁ used y content w ∙ wrote-out false space s₀ o₀ s o 0 used (storeRecords (openedTemplates text (g .first))) (g .wrote)
+        kept : recsFrom s₁ 0 used ≡ recsFrom s 0 used
+        kept = wrote-keeps false space used s o s₁ o₁ used y content (λ e. omega arith) fits w
 
-        -- the template that was opened
-        listed : drop (placeIn t x + 2 + arityIn t x) (recs defs) ≡ records (this .value .pattern) ++ recordsAll (place .others-after)
-        listed = tree-records defs (placeIn t x + 2 + arityIn t x) (this .value .pattern) (place .others-after) (source .placed) (place .tree)
+        up : used ≤ y
+        up = wrote-up false space s o s₁ o₁ used y content (g .room) w
 
-        content-is : content ≡ openedRecords text S (this .value .params) (records (this .value .pattern) ++ recordsAll (place .others-after)) 1
-        content-is = ap (λ (rs : List Rec). openedRecords text S (paramsAt defs (placeIn t x + 2) (arityIn t x)) rs 1) listed ∙ ap (λ (ps : Trees). openedRecords text S ps (records (this .value .pattern) ++ recordsAll (place .others-after)) 1) (sym (place .params))
-
-        template-is : content ≡ records (openTemplate text S (this .value))
-        template-is = content-is ∙ opened-template text S (this .value) (recordsAll (place .others-after))
-
-        both : Wrote false space s₀ o₀ 0 (storeRecords (openedTemplates text (g .first)) ++ content) s₁ o₁ y
-        both = wrote-both false space s₀ o₀ s o s₁ o₁ 0 used y (storeRecords (openedTemplates text (g .first))) content (g .room) (g .wrote) w
-
-        store-is : storeRecords (openedTemplates text (g .first ++ (this ∷ []))) ≡ storeRecords (openedTemplates text (g .first)) ++ content
-        store-is = store-next text (g .first) this (recordsAll (place .others-after)) ∙ ap (storeRecords (openedTemplates text (g .first)) ++_) (sym content-is)
-
-        pub filling-full : (starts′ : List ℕ) → space < y → Stored space text t n defs s₀ o₀ starts′ s₁ o₁ y
-        filling-full starts′ h =
-            let m = templates-more text (next-one .1) (g .first ++ (this ∷ [])) in
-            let e : openedTemplates text (extractorsIn text defs) ≡ openedTemplates text (g .first ++ (this ∷ [])) ++ m .0 =
-            ap (openedTemplates text) (divided ∙ sym (append-assoc (g .first) (this ∷ []) (next-one .1))) ∙ m .1 in
-            let q : storeRecords (openedTemplates text (extractorsIn text defs)) ≡ (storeRecords (openedTemplates text (g .first)) ++ content) ++ storeRecords (m .0) =
-            ap storeRecords e ∙ store-append (openedTemplates text (g .first ++ (this ∷ []))) (m .0) ∙ ap (_++ storeRecords (m .0)) store-is in
+        old-region : (z : ℕ) (v : Tree) → z < 0 + x → Region starts s used z v → Region starts′ s₁ y z v
+        old-region z v h r =
+            let a : getD starts′ z 0 ≡ getD starts z 0 = old-start z (omega arith) in
+            let b : getD starts′ (z + 1) 0 ≡ getD starts (z + 1) 0 = old-start (z + 1) (omega arith) in
             record {
-              wrote = rw q (wrote-stop false space s₀ o₀ s₁ o₁ 0 y (storeRecords (openedTemplates text (g .first)) ++ content) (storeRecords (m .0)) h both);
-              rows = λ l. absurd (omega arith);
-              last = λ l. absurd (omega arith);
+              holds = rw (a, b) (r .holds ∙ sym (recs-part s s₁ used (getD starts z 0) (getD starts (z + 1) 0 - getD starts z 0) kept (omega (arith, r .forward, r .inside))));
+              forward = rw (a, b) (r .forward);
+              inside = rw b (omega (arith, r .inside, up));
             }
 
-        module _ (fits : y ≤ space) where
-          abbrev starts′ : List ℕ
-          starts′ = set starts (x + 1) y
+        tail-is : (b : List ℕ) (l : List Rec) → recsFrom b 0 y ≡ recsFrom s 0 used ++ l → recsFrom b used (y - used) ≡ l
+        tail-is b l e =
+            ap (λ (i : ℕ). recsFrom b i (y - used)) (sym (zero-add used)) ∙ sym (drop-from used b 0 y) ∙ ap (drop used) e
+            ∙ drop-at-end used (recsFrom s 0 used) l (length-recsFrom s 0 used)
+          where
+            drop-at-end : (n : ℕ) (xs ys : List Rec) → length xs ≡ n → drop n (xs ++ ys) ≡ ys
+            drop-at-end n [] ys e = rw (← e)
+            drop-at-end n (x ∷ xs) ys e = rw (← e) (drop-at-end (length xs) xs ys refl)
 
-          old-start : (z : ℕ) → z ≤ x → getD starts′ z 0 ≡ getD starts z 0
-          old-start z h = getD-set-other starts (x + 1) z y 0 (λ e. omega arith)
+        read-back : Wrote false space s o used content s₁ o₁ y → recsFrom s₁ 0 y ≡ recsFrom s 0 used ++ content
+        read-back (all a b c d e f h) = f
+        read-back (full a b c d) = absurd (omega arith)
 
-          new-start : getD starts′ (x + 1) 0 ≡ y
-          new-start = getD-set-same starts (x + 1) y 0 (omega (arith, g .starts-same))
+        new-region : Region starts′ s₁ y x (openTemplate text S (this .value))
+        new-region =
+            let a : getD starts′ x 0 ≡ used = old-start x (omega arith) ∙ g .last in
+            record {
+              holds = rw (a, new-start) (sym template-is ∙ sym (tail-is s₁ content (read-back w)));
+              forward = rw (a, new-start) up;
+              inside = rw new-start (omega arith);
+            }
 
-          kept : recsFrom s₁ 0 used ≡ recsFrom s 0 used
-          kept = wrote-keeps false space used s o s₁ o₁ used y content (λ e. omega arith) fits w
-
-          up : used ≤ y
-          up = wrote-up false space s o s₁ o₁ used y content (g .room) w
-
-          old-region : (z : ℕ) (v : Tree) → z < 0 + x → Region starts s used z v → Region starts′ s₁ y z v
-          old-region z v h r =
-              let a : getD starts′ z 0 ≡ getD starts z 0 = old-start z (omega arith) in
-              let b : getD starts′ (z + 1) 0 ≡ getD starts (z + 1) 0 = old-start (z + 1) (omega arith) in
-              record {
-                holds = rw (a, b) (r .holds ∙ sym (recs-part s s₁ used (getD starts z 0) (getD starts (z + 1) 0 - getD starts z 0) kept (omega (arith, r .forward, r .inside))));
-                forward = rw (a, b) (r .forward);
-                inside = rw b (omega (arith, r .inside, up));
-              }
-
-          tail-is : (b : List ℕ) (l : List Rec) → recsFrom b 0 y ≡ recsFrom s 0 used ++ l → recsFrom b used (y - used) ≡ l
-          tail-is b l e =
-              ap (λ (i : ℕ). recsFrom b i (y - used)) (sym (zero-add used)) ∙ sym (drop-from used b 0 y) ∙ ap (drop used) e
-              ∙ drop-at-end used (recsFrom s 0 used) l (length-recsFrom s 0 used)
-            where
-              drop-at-end : (n : ℕ) (xs ys : List Rec) → length xs ≡ n → drop n (xs ++ ys) ≡ ys
-              drop-at-end n [] ys e = rw (← e)
-              drop-at-end n (x ∷ xs) ys e = rw (← e) (drop-at-end (length xs) xs ys refl)
-
-          read-back : Wrote false space s o used content s₁ o₁ y → recsFrom s₁ 0 y ≡ recsFrom s 0 used ++ content
-          read-back (all a b c d e f h) = f
-          read-back (full a b c d) = absurd (omega arith)
-
-          new-region : Region starts′ s₁ y x (openTemplate text S (this .value))
-          new-region =
-              let a : getD starts′ x 0 ≡ used = old-start x (omega arith) ∙ g .last in
-              record {
-                holds = rw (a, new-start) (sym template-is ∙ sym (tail-is s₁ content (read-back w)));
-                forward = rw (a, new-start) up;
-                inside = rw new-start (omega arith);
-              }
-
-          pub filling-next : Filling space text t n defs ends s₀ o₀ starts₀ (set starts (x + 1) y) s₁ o₁ (x + 1) y
-          filling-next =
-              record {
-                first = g .first ++ (this ∷ []);
-                later = next-one .1;
-                split = divided ∙ sym (append-assoc (g .first) (this ∷ []) (next-one .1));
-                sized = length-append (g .first) (this ∷ []) ∙ omega (arith, g .sized);
-                wrote = rw store-is both;
-                rows =
-                    let count-S : length S ≡ x = templates-length text (g .first) ∙ g .sized in
-                    let z : 0 + length S ≡ x = omega arith in
-                    rw (templates-next text (g .first) this) (rows-snoc text t (Region starts′ s₁ y) 0 S (named (this .name) (openTemplate text S (this .value)))
-                    (rw z (ap (λ (v : Named Extractor). v .name) (row-is text defs t x this (source .placed) row .0))) (rw z new-region)
-                    (rows-map text t (Region starts s used) (Region starts′ s₁ y) 0 x S (omega arith) old-region (g .rows)));
-                last = new-start;
-                room = fits;
-                starts-same = length-set starts (x + 1) y ∙ g .starts-same;
-              }
+        pub filling-next : Filling space text t n defs ends s₀ o₀ starts₀ (set starts (x + 1) y) s₁ o₁ (x + 1) y
+        filling-next =
+            record {
+              source = source;
+              first = g .first ++ (this ∷ []);
+              later = next-one .1;
+              split = divided ∙ sym (append-assoc (g .first) (this ∷ []) (next-one .1));
+              sized = length-append (g .first) (this ∷ []) ∙ omega (arith, g .sized);
+              wrote = rw store-is both;
+              rows =
+                  let count-S : length S ≡ x = templates-length text (g .first) ∙ g .sized in
+                  let z : 0 + length S ≡ x = omega arith in
+                  rw (templates-next text (g .first) this) (rows-snoc text t (Region starts′ s₁ y) 0 S (named (this .name) (openTemplate text S (this .value)))
+                  (rw z (ap (λ (v : Named Extractor). v .name) (row-is text defs t x this (source .placed) row .0))) (rw z new-region)
+                  (rows-map text t (Region starts s used) (Region starts′ s₁ y) 0 x S (omega arith) old-region (g .rows)));
+              last = new-start;
+              room = fits;
+              there = rw store-same (g .there);
+              most = g .most;
+              long = rw (length-set starts (x + 1) y) (g .long);
+              starts-same = length-set starts (x + 1) y ∙ g .starts-same;
+              store-same = store-same ∙ g .store-same;
+              out-same = wrote-out false space s o s₁ o₁ used y content w ∙ g .out-same;
+            }

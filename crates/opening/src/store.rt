@@ -2,11 +2,20 @@
 use crate::walk::open_one;
 ghost use mathlib.Core.Path.{_≡_};
 ghost use Prim.Native.Nat.{_+_, _*_, _≤_, _<_};
-ghost use lib.ListN.{length};
+ghost use lib.ListN.{length, getD};
 ghost use Rattle.records.specs.Slots.{slots};
 ghost use Rattle.opening.specs.Store.{Source, Stored};
 
-pub fn fill_store(
+// The first template begins at the slot 0.
+fn begin(starts: &mut [usize])
+    requires { ⌜ 0 < length (now starts) ⌝ }
+    ensures { λ _. ⌜ getD (now (starts .exit)) 0 0 ≡ 0 ⌝ }
+{
+    starts[0] = 0;
+}
+
+// Fills the store, where it is said that the first template begins at the slot 0.
+fn fill_from(
     text: &[u8],
     table: &[u64],
     n: usize,
@@ -17,10 +26,9 @@ pub fn fill_store(
     out: &mut [u8],
     space: usize,
 ) -> usize
-    requires { ⌜ Source (now text) (now table) n (now defs) (now ends) × (n < length (now starts)) × (space ≤ slots (now store)) × (space ≤ 65536) ⌝ }
+    requires { ⌜ Source (now text) (now table) n (now defs) (now ends) × (n < length (now starts)) × (space ≤ slots (now store)) × (space ≤ 65536) × (getD (now starts) 0 0 ≡ 0) ⌝ }
     ensures { λ y. ⌜ Stored space (now (text .entry)) (now (table .entry)) n (now (defs .entry)) (now (store .entry)) (now (out .entry)) (now (starts .exit)) (now (store .exit)) (now (out .exit)) y ⌝ }
 {
-    starts[0] = 0;
     let mut x = 0;
     let mut used = 0;
     while x < n {
@@ -50,4 +58,22 @@ pub fn fill_store(
         used = y;
     }
     used
+}
+
+pub fn fill_store(
+    text: &[u8],
+    table: &[u64],
+    n: usize,
+    defs: &[u8],
+    ends: &[u32],
+    starts: &mut [usize],
+    store: &mut [u8],
+    out: &mut [u8],
+    space: usize,
+) -> usize
+    requires { ⌜ Source (now text) (now table) n (now defs) (now ends) × (n < length (now starts)) × (space ≤ slots (now store)) × (space ≤ 65536) ⌝ }
+    ensures { λ y. ⌜ Stored space (now (text .entry)) (now (table .entry)) n (now (defs .entry)) (now (store .entry)) (now (out .entry)) (now (starts .exit)) (now (store .exit)) (now (out .exit)) y ⌝ }
+{
+    begin(starts);
+    fill_from(text, table, n, defs, ends, starts, store, out, space)
 }
