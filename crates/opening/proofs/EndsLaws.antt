@@ -1,9 +1,8 @@
 -- The table of ends: hopping over trees, and filling it. Assumes nothing.
 use mathlib.Core.Path.{_≡_, refl, sym, ap, _∙_}
 use mathlib.Core.Bool.{Bool, true, false}
-use mathlib.Core.List.{List, [], _∷_}
-use Prim.Native.Nat.{ℕ, zero, suc, _+_, _-_, _<_, _≤_}
-use native.Mathlib.Nat.{add-zero}
+use mathlib.Core.List.{List, _∷_}
+use Prim.Native.Nat.{ℕ, _+_, _-_, _<_, _≤_}
 use native.Mathlib.Omega.{arith}
 use lib.Dec.{eqb}
 use mir.Syntax.{w32}
@@ -27,7 +26,7 @@ pub hop-start : (src : List ℕ) (at : ℕ) → at ≡ behind src at 0
 hop-start src at = omega (arith, span-zero (drop at (recs src)))
 
 -- where j of at least c trees were passed, one more begins
-pub hop-there : (src : List ℕ) (at j c a : ℕ) → c ≤ count (treesOf (drop at (recs src))) → a ≡ behind src at j → c - j ≤ count (treesOf (drop a (recs src)))
+hop-there : (src : List ℕ) (at j c a : ℕ) → c ≤ count (treesOf (drop at (recs src))) → a ≡ behind src at j → c - j ≤ count (treesOf (drop a (recs src)))
 hop-there src at j c a h e =
     let d : drop a (recs src) ≡ after (drop at (recs src)) j = ap (λ (i : ℕ). drop i (recs src)) e ∙ sym (drop-drop (span (drop at (recs src)) j) at (recs src)) in
     let n : count (treesOf (drop a (recs src))) ≡ count (treesOf (drop at (recs src))) - j = ap (λ (rs : List Rec). count (treesOf rs)) d ∙ ap count (treesOf-after (drop at (recs src)) j) ∙ count-others j (treesOf (drop at (recs src))) in

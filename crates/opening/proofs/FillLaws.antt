@@ -1,28 +1,26 @@
 -- The ways through filling the store. Assumes nothing.
 use mathlib.Core.Path.{_≡_, refl, sym, ap, _∙_}
-use mathlib.Core.Bool.{Bool, true, false}
-use mathlib.Core.Option.{Option, none, some}
+use mathlib.Core.Bool.{false}
 use mathlib.Core.List.{List, [], _∷_, _++_, append-assoc, append-nil}
-use Prim.Native.Nat.{ℕ, zero, suc, _+_, _-_, _*_, _<_, _≤_}
+use Prim.Native.Nat.{ℕ, suc, _+_, _-_, _<_, _≤_}
 use native.Mathlib.Nat.{add-zero, zero-add}
 use native.Mathlib.Omega.{arith}
 use mir.Syntax.{w64}
 use mir.Val.{Fits}
 use lib.ListN.{length, getD, set, drop, length-append, length-set}
-use lib.Seq.{drop-drop, drop-append-le, getD-set-same, getD-set-other}
+use lib.Seq.{drop-drop, getD-set-same, getD-set-other}
 use Rattle.trees.specs.declared.Rec.{Rec}
-use Rattle.trees.specs.declared.Head.{Head}
 use Rattle.trees.specs.Tree.{Tree, Trees, node, ∅, _▸_, count, others, headOf, records, recordsAll, treesOf}
 use Rattle.trees.specs.Names.{spelled}
 use Rattle.records.specs.Slots.{slots, recAt, recsFrom, recs}
 use Rattle.records.proofs.Reading.{length-recsFrom}
-use Rattle.expansion.specs.Nodes.{treeAt, isExtractor, Every}
-use Rattle.expansion.specs.Expansion.{Named, named, Extractor, Extractors, extractors, called, termName, inOrder, openTemplate, openedTemplates}
+use Rattle.expansion.specs.Nodes.{Every}
+use Rattle.expansion.specs.Expansion.{Named, named, Extractor, Extractors, extractors, termName, inOrder, openTemplate, openedTemplates}
 use Rattle.expansion.specs.Acceptance.{Counted, ExtractorFine, AllFine}
 use Rattle.expansion.specs.Flat.{span, after, openedRecords, openedAt, storeRecords, Placed, All}
 use Rattle.expansion.proofs.NodeLaws.{every-map}
 use Rattle.expansion.proofs.OpenLaws.{lookup-first}
-use Rattle.expansion.proofs.SpanLaws.{treesOf-after, after-zero, count-others}
+use Rattle.expansion.proofs.SpanLaws.{treesOf-after, after-zero}
 use Rattle.expansion.proofs.FlatOpening.{opened-template, store-append}
 use Rattle.expansion.proofs.IndexLaws.{all-at}
 use Rattle.expansion.proofs.StoreLaws.{templates-next, store-next, fine-first}
@@ -62,7 +60,8 @@ module _ {A : Type 0} (text t : List ℕ) where
   rows-map Q R x m [] l f r = tt
   rows-map Q R x m (e ∷ es) l f r = (r .0, f x (e .value) (omega arith) (r .1), rows-map Q R (suc x) (m - 1) es (omega arith) (λ y v h q. f y v (omega arith) q) (r .2))
 
-  rows-snoc : (Q : ℕ → A → Type 0) (x : ℕ) (es : List (Named A)) (e : Named A) → e .name ≡ spelled text (nameIn t (x + length es)) → Q (x + length es) (e .value) → RowsOf Q text t x es → RowsOf Q text t x (es ++ (e ∷ []))
+  rows-snoc : (Q : ℕ → A → Type 0) (x : ℕ) (es : List (Named A)) (e : Named A) → e .name ≡ spelled text (nameIn t (x + length es)) → Q (x + length es) (e .value)
+      → RowsOf Q text t x es → RowsOf Q text t x (es ++ (e ∷ []))
   rows-snoc Q x [] e p q r = (rw (add-zero x) at p, rw (add-zero x) at q, tt)
   rows-snoc Q x (f ∷ es) e p q r =
       let m : x + suc (length es) ≡ suc x + length es = omega arith in

@@ -25,7 +25,8 @@ recs-part s s′ base a m e h = sym (part s′) ∙ ap (λ (rs : List Rec). take
     part : (b : List ℕ) → take m (drop a (recsFrom b 0 base)) ≡ recsFrom b a m
     part b = ap (take m) (drop-from a b 0 base ∙ ap (λ (i : ℕ). recsFrom b i (base - a)) (zero-add a)) ∙ take-recs m (base - a) b a (omega arith)
 
-rows-keep : (text t starts s s′ : List ℕ) (base x : ℕ) (S : List (Named Tree)) → recsFrom s′ 0 base ≡ recsFrom s 0 base → RowsOf (Region starts s base) text t x S → RowsOf (Region starts s′ base) text t x S
+rows-keep : (text t starts s s′ : List ℕ) (base x : ℕ) (S : List (Named Tree)) → recsFrom s′ 0 base ≡ recsFrom s 0 base → RowsOf (Region starts s base) text t x S
+    → RowsOf (Region starts s′ base) text t x S
 rows-keep text t starts s s′ base x [] e r = tt
 rows-keep text t starts s s′ base x (o ∷ S) e r = (
   r .0,
@@ -34,7 +35,8 @@ rows-keep text t starts s s′ base x (o ∷ S) e r = (
 )
 
 module _ (text t : List ℕ) (n : ℕ) (starts src ends : List ℕ) (pa pc : ℕ) (S : List (Named Tree)) where
-  pub ready-keep : (i : ℕ) (s s′ : List ℕ) → recsFrom s′ 0 (getD starts n 0) ≡ recsFrom s 0 (getD starts n 0) → length s′ ≡ length s → Ready text t n starts src ends pa pc i s S → Ready text t n starts src ends pa pc i s′ S
+  pub ready-keep : (i : ℕ) (s s′ : List ℕ) → recsFrom s′ 0 (getD starts n 0) ≡ recsFrom s 0 (getD starts n 0) → length s′ ≡ length s
+      → Ready text t n starts src ends pa pc i s S → Ready text t n starts src ends pa pc i s′ S
   ready-keep i s s′ e l r =
       record {
         rows = rows-keep text t starts s s′ (getD starts n 0) 0 S e (r .rows);
@@ -75,7 +77,8 @@ module _ (text t : List ℕ) (n : ℕ) (starts src ends : List ℕ) (pa pc : ℕ
 
 -- ---- room for more
 
-pub room-next : (outward : Bool) (space base : ℕ) (s o s′ o′ : List ℕ) (m y : ℕ) (l : List Rec) → Room outward space base s o m → y ≤ space → Wrote outward space s o m l s′ o′ y → Room outward space base s′ o′ y
+pub room-next : (outward : Bool) (space base : ℕ) (s o s′ o′ : List ℕ) (m y : ℕ) (l : List Rec) → Room outward space base s o m → y ≤ space
+    → Wrote outward space s o m l s′ o′ y → Room outward space base s′ o′ y
 room-next outward space base s o s′ o′ m y l r h w =
     record {
       fits = h;

@@ -2,34 +2,30 @@
 use mathlib.Core.Path.{_≡_, refl, sym, ap, _∙_}
 use mathlib.Core.Bool.{Bool, true, false}
 use mathlib.Core.Option.{Option, none, some}
-use mathlib.Core.List.{List, [], _∷_, _++_}
-use Prim.Native.Nat.{ℕ, zero, suc, _+_, _-_, _*_, _<_, _≤_}
-use native.Mathlib.Nat.{add-zero, zero-add}
-use native.Mathlib.Numerals.{add-one}
+use mathlib.Core.List.{List, [], _∷_}
+use Prim.Native.Nat.{ℕ, suc, _+_, _-_, _<_, _≤_}
+use native.Mathlib.Nat.{zero-add}
 use native.Mathlib.Decide.{decLt}
 use native.Mathlib.Omega.{arith}
-use lib.Dec.{eqb}
-use lib.ListN.{length, getD, drop}
+use lib.ListN.{getD, drop}
 use lib.Seq.{drop-drop}
 use borrow.Author.Tests.{eq-eqb, ne-eqb}
 use Rattle.trees.specs.Choice.{pick}
 use Rattle.trees.specs.declared.Rec.{Rec}
-use Rattle.trees.specs.Tree.{Tree, Trees, node, ∅, _▸_, count, firsts, others, headOf, recordOf, treesOf}
+use Rattle.trees.specs.Tree.{Trees, count, firsts, others, recordOf, treesOf}
 use Rattle.trees.specs.Names.{spelled}
 use Rattle.words.specs.Bytes.{sameBytes}
 use Rattle.records.specs.Slots.{slots, recAt, recs}
 use Rattle.expansion.specs.Nodes.{macroArg, isVar, isBind, isWildcard}
 use Rattle.expansion.specs.Templates.{next, position}
-use Rattle.expansion.specs.Expansion.{Named}
-use Rattle.expansion.specs.Flat.{span, after, endOf, wildcardNext, standsAt, Placed, All, calledAt, openedAt, LeafNext}
+use Rattle.expansion.specs.Flat.{span, after, endOf, standsAt, Placed, openedAt, LeafNext}
 use Rattle.expansion.proofs.SpanLaws.{span-add}
 use Rattle.expansion.proofs.IndexLaws.{all-at, at-parameter, at-plain}
 use Rattle.grounds.specs.Leaves.{Leaves}
 use Rattle.grounds.specs.Table.{looked}
-use Rattle.grounds.proofs.At.{here, past, length-recs, kidsAt, trees-at, end-more}
+use Rattle.grounds.proofs.At.{here, past, length-recs, trees-at, end-more}
 use Rattle.grounds.proofs.JudgeLaws.{tree-inside, there-next, call-second}
 use Rattle.opening.specs.Ends.{EndsFrom}
-use Rattle.opening.specs.declared.made.Made.{Made}
 use Rattle.opening.specs.Made.{paramsAt, Params, Located, Makeable, Sought, MadeAt, callNumber}
 
 -- ---- a parameter's name
@@ -83,7 +79,8 @@ module _ (text src : List ℕ) (pa pc w j : ℕ) (g : Seeking text src pa pc w j
     turn-here : r ≡ true → position text (spelled text w) (firsts (pc - j) (treesOf (drop (pa + j) (recs src)))) ≡ some 0
     turn-here q = turn ∙ rw q
 
-    turn-next : r ≡ false → position text (spelled text w) (firsts (pc - j) (treesOf (drop (pa + j) (recs src)))) ≡ next (position text (spelled text w) (firsts (pc - (j + 1)) (treesOf (drop (pa + (j + 1)) (recs src)))))
+    turn-next : r ≡ false
+        → position text (spelled text w) (firsts (pc - j) (treesOf (drop (pa + j) (recs src)))) ≡ next (position text (spelled text w) (firsts (pc - (j + 1)) (treesOf (drop (pa + (j + 1)) (recs src)))))
     turn-next q = turn ∙ rw q
 
     pub seeking-here : r ≡ true → Sought pc (position text (spelled text w) (paramsAt src pa pc)) j

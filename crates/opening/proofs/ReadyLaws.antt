@@ -46,8 +46,10 @@ module _ (P : Head → Trees → Type 0) where
 
 -- ---- each call finds an argument for each MacroArg
 
-module _ (text : List ℕ) (E : Extractors) (fine : AllFine text E [] E) (src : List ℕ) (a : All Placed (recs src)) (i : ℕ) (p : Tree) (ts : Trees) (tree : treesOf (drop i (recs src)) ≡ p ▸ ts) (counts : Every (Counted text E) p) where
-  pub fits-calls : (k : ℕ) → i ≤ k → k < endOf (recs src) i → k < slots src → (o : Tree) → calledAt text (openedTemplates text E) (recAt src k) (drop (k + 1) (recs src)) ≡ some o → Every (Fits (recAt src k .count - 1)) o
+module _ (text : List ℕ) (E : Extractors) (fine : AllFine text E [] E) (src : List ℕ) (a : All Placed (recs src)) (i : ℕ) (p : Tree) (ts : Trees)
+    (tree : treesOf (drop i (recs src)) ≡ p ▸ ts) (counts : Every (Counted text E) p) where
+  pub fits-calls : (k : ℕ) → i ≤ k → k < endOf (recs src) i → k < slots src → (o : Tree)
+      → calledAt text (openedTemplates text E) (recAt src k) (drop (k + 1) (recs src)) ≡ some o → Every (Fits (recAt src k .count - 1)) o
   unfolding endOf firsts
   fits-calls k h l inside o c =
       let r : Rec = recAt src k in

@@ -61,9 +61,6 @@ module _ (outward : Bool) (space : ℕ) (text t : List ℕ) (n : ℕ) (starts sr
   abbrev ReadyAt : ℕ → List ℕ → List (Named Tree) → Type 0
   ReadyAt i s S = Ready text t n starts src ends pa pc i s S
 
-  abbrev Writes : List ℕ → List ℕ → ℕ → List Rec → List ℕ → List ℕ → ℕ → Type 0
-  Writes s o m l s′ o′ y = Wrote outward space s o m l s′ o′ y
-
   -- what the record k calls
   abbrev Calls : List (Named Tree) → ℕ → Tree → Type 0
   Calls S k c = calledAt text S (recAt src k) (drop (k + 1) (recs src)) ≡ some c
@@ -108,7 +105,7 @@ module _ (outward : Bool) (space : ℕ) (text t : List ℕ) (n : ℕ) (starts sr
     pub store-same : length s ≡ length s₀
     pub out-same : length o ≡ length o₀
     pub leads : (S : List (Named Tree)) → ReadyAt k s₀ S → (c : Tree) → Calls S k c → (s′ o′ : List ℕ) (z : ℕ)
-        → Writes s o y (fill (argument S k) (recsFrom s j (end - j))) s′ o′ z → Writes s₀ o₀ m (fill (argument S k) (records c)) s′ o′ z
+        → Wrote outward space s o y (fill (argument S k) (recsFrom s j (end - j))) s′ o′ z → Wrote outward space s₀ o₀ m (fill (argument S k) (records c)) s′ o′ z
 
   module _ (s₀ o₀ : List ℕ) (k x m : ℕ) (e : Fillable outward space text t n starts src ends pa pc k x s₀ o₀ m) where
     entry-ready : (S : List (Named Tree)) × ReadyAt k s₀ S
@@ -161,9 +158,6 @@ module _ (outward : Bool) (space : ℕ) (text t : List ℕ) (n : ℕ) (starts sr
     pub scanning-most : end ≤ 65536
     scanning-most = omega (arith, g .within, now-ready .base-small)
 
-    pub scanning-small : k < 65536
-    scanning-small = omega (arith, now-ready .inside, now-ready .small)
-
     pub scanning-room : Appendable outward space s o y
     scanning-room = room-one outward space (getD starts n 0) s o y (g .room)
 
@@ -182,7 +176,7 @@ module _ (outward : Bool) (space : ℕ) (text t : List ℕ) (n : ℕ) (starts sr
       split = recs-cons s j end more ∙ ap (_∷ recsFrom s (j + 1) (end - (j + 1))) (sym is)
 
       -- a part of what is left is written
-      module _ (s₁ o₁ : List ℕ) (y₁ : ℕ) (l : List (Named Tree) → List Rec) (w : (S : List (Named Tree)) → ReadyAt k s S → Writes s o y (l S) s₁ o₁ y₁)
+      module _ (s₁ o₁ : List ℕ) (y₁ : ℕ) (l : List (Named Tree) → List Rec) (w : (S : List (Named Tree)) → ReadyAt k s S → Wrote outward space s o y (l S) s₁ o₁ y₁)
           (splits : (S : List (Named Tree)) → fill (argument S k) (recsFrom s j (end - j)) ≡ l S ++ fill (argument S k) (recsFrom s (j + 1) (end - (j + 1)))) where
         part-full : space < y₁ → Filled outward space text t n starts src ends pa pc k s₀ o₀ m s₁ o₁ y₁
         unfolding Filled
@@ -193,7 +187,7 @@ module _ (outward : Bool) (space : ℕ) (text t : List ℕ) (n : ℕ) (starts sr
         unfolding ArgsBelow Readied
         part from₁ last₁ begun h =
             let l₁ : List Rec = l held in
-            let w₁ : Writes s o y l₁ s₁ o₁ y₁ = w held now-ready in
+            let w₁ : Wrote outward space s o y l₁ s₁ o₁ y₁ = w held now-ready in
             let same : length s₁ ≡ length s = wrote-store outward space s o s₁ o₁ y y₁ l₁ w₁ in
             let kept : recsFrom s₁ 0 (getD starts n 0) ≡ recsFrom s 0 (getD starts n 0) = wrote-keeps outward space (getD starts n 0) s o s₁ o₁ y y₁ l₁ (g .room .low) h w₁ in
             let tail : recsFrom s₁ (j + 1) (end - (j + 1)) ≡ recsFrom s (j + 1) (end - (j + 1)) = recs-part s s₁ (getD starts n 0) (j + 1) (end - (j + 1)) kept (omega (arith, g .within)) in
@@ -243,7 +237,7 @@ module _ (outward : Bool) (space : ℕ) (text t : List ℕ) (n : ℕ) (starts sr
             }
 
         module _ (a : ℕ) (child : Child src k (r .word1 + 1) a) (s₁ o₁ : List ℕ) (y₁ : ℕ) (opened : Opened outward space text t n starts src ends pa pc a s o y s₁ o₁ y₁) where
-          wrote : (S : List (Named Tree)) → ReadyAt k s S → Writes s o y (argument S k (r .word1)) s₁ o₁ y₁
+          wrote : (S : List (Named Tree)) → ReadyAt k s S → Wrote outward space s o y (argument S k (r .word1)) s₁ o₁ y₁
           unfolding Opened childAt
           wrote S q =
               let e : a ≡ childAt (recs src) k (suc (r .word1)) = child .at ∙ ap (behind src (k + 1)) (add-one (r .word1)) in
@@ -260,6 +254,7 @@ module _ (outward : Bool) (space : ℕ) (text t : List ℕ) (n : ℕ) (starts sr
           scanning-arg h = part s₁ o₁ y₁ (λ S. argument S k (r .word1)) wrote filled a (r .word1 + 1) (child .at) h
 
   -- the same with what was written first: so it is found from there
-  pub scanning-put : (s₀ o₀ : List ℕ) (k m : ℕ) (s o : List ℕ) (end j y from last : ℕ) (r : Rec) (s₁ o₁ : List ℕ) (y₁ : ℕ) → Wrote outward space s o y (r ∷ []) s₁ o₁ y₁ → r ≡ recAt s j → (r .kind ≡ 38 → ⊥)
+  pub scanning-put : (s₀ o₀ : List ℕ) (k m : ℕ) (s o : List ℕ) (end j y from last : ℕ) (r : Rec) (s₁ o₁ : List ℕ) (y₁ : ℕ) → Wrote outward space s o y (r ∷ []) s₁ o₁ y₁
+      → r ≡ recAt s j → (r .kind ≡ 38 → ⊥)
       → Scanning s₀ o₀ k m s o end j y from last → j < end → y₁ ≤ space → Scanning s₀ o₀ k m s₁ o₁ end (j + 1) y₁ from last
   scanning-put s₀ o₀ k m s o end j y from last r s₁ o₁ y₁ w is kind g more h = put s₀ o₀ k m s o end j y from last g more r is kind s₁ o₁ y₁ w h

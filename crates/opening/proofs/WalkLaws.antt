@@ -4,7 +4,6 @@ use mathlib.Core.Bool.{Bool}
 use mathlib.Core.Option.{some}
 use mathlib.Core.List.{List, [], _∷_, _++_}
 use Prim.Native.Nat.{ℕ, suc, _+_, _-_, _<_, _≤_}
-use native.Mathlib.Nat.{add-comm}
 use native.Mathlib.Omega.{arith}
 use lib.ListN.{length, getD, drop, length-drop}
 use Rattle.trees.specs.declared.Rec.{Rec}
@@ -42,9 +41,6 @@ module _ (outward : Bool) (space : ℕ) (text t : List ℕ) (n : ℕ) (starts sr
   abbrev ReadyAt : ℕ → List ℕ → List (Named Tree) → Type 0
   ReadyAt i s S = Ready text t n starts src ends pa pc i s S
 
-  abbrev Writes : List ℕ → List ℕ → ℕ → List Rec → List ℕ → List ℕ → ℕ → Type 0
-  Writes s o m l s′ o′ y = Wrote outward space s o m l s′ o′ y
-
   -- the records of c trees from the index k on, opened
   abbrev opens : List (Named Tree) → ℕ → ℕ → List Rec
   opens S k c = openedAt text S (paramsAt src pa pc) (recs src) k c
@@ -59,7 +55,7 @@ module _ (outward : Bool) (space : ℕ) (text t : List ℕ) (n : ℕ) (starts sr
     pub upto : behind src k todo ≡ endOf (recs src) i
     pub store-same : length s ≡ length s₀
     pub out-same : length o ≡ length o₀
-    pub leads : (S : List (Named Tree)) → ReadyAt i s₀ S → (s′ o′ : List ℕ) (z : ℕ) → Writes s o y (opens S k todo) s′ o′ z → Writes s₀ o₀ m (opens S i 1) s′ o′ z
+    pub leads : (S : List (Named Tree)) → ReadyAt i s₀ S → (s′ o′ : List ℕ) (z : ℕ) → Wrote outward space s o y (opens S k todo) s′ o′ z → Wrote outward space s₀ o₀ m (opens S i 1) s′ o′ z
 
   pub walking-start : (s₀ o₀ : List ℕ) (i m : ℕ) → Readied text t n starts src ends pa pc i s₀ → Room outward space (getD starts n 0) s₀ o₀ m → Walking s₀ o₀ i m s₀ o₀ 1 i m
   unfolding Readied endOf count
@@ -142,7 +138,7 @@ module _ (outward : Bool) (space : ℕ) (text t : List ℕ) (n : ℕ) (starts sr
       walking-fillable x number upto other = record { readied = (held, ready-here held now-ready); room = g .room; number = number; below = omega arith }
 
       -- a part of what is left is written
-      module _ (s₁ o₁ : List ℕ) (y₁ : ℕ) (l : (S : List (Named Tree)) → ReadyAt i s S → List Rec) (w : (S : List (Named Tree)) (r : ReadyAt i s S) → Writes s o y (l S r) s₁ o₁ y₁)
+      module _ (s₁ o₁ : List ℕ) (y₁ : ℕ) (l : (S : List (Named Tree)) → ReadyAt i s S → List Rec) (w : (S : List (Named Tree)) (r : ReadyAt i s S) → Wrote outward space s o y (l S r) s₁ o₁ y₁)
           (todo₁ k₁ : ℕ) (splits : (S : List (Named Tree)) (r : ReadyAt i s S) → opens S k todo ≡ l S r ++ opens S k₁ todo₁) where
         part-full : space < y₁ → Opened outward space text t n starts src ends pa pc i s₀ o₀ m s₁ o₁ y₁
         unfolding Opened
@@ -152,7 +148,7 @@ module _ (outward : Bool) (space : ℕ) (text t : List ℕ) (n : ℕ) (starts sr
         unfolding Readied
         part h there on upto =
             let l₁ : List Rec = l held now-ready in
-            let w₁ : Writes s o y l₁ s₁ o₁ y₁ = w held now-ready in
+            let w₁ : Wrote outward space s o y l₁ s₁ o₁ y₁ = w held now-ready in
             let same : length s₁ ≡ length s = wrote-store outward space s o s₁ o₁ y y₁ l₁ w₁ in
             let keep : (S : List (Named Tree)) → ReadyAt i s S → ReadyAt i s₁ S =
             λ S r. ready-keep text t n starts src ends pa pc S i s s₁ (wrote-keeps outward space (getD starts n 0) s o s₁ o₁ y y₁ l₁ (g .room .low) h w₁) same r in
@@ -176,27 +172,29 @@ module _ (outward : Bool) (space : ℕ) (text t : List ℕ) (n : ℕ) (starts sr
           (omega (arith, opened-size text S (paramsAt src pa pc) (drop k (recs src)) todo (g .there))) h w)
 
       -- a record is written
-      pub walking-put : (x : ℕ) (made : Made) (s₁ o₁ : List ℕ) (y₁ : ℕ) → x ≡ callNumber text t n src k → x ≡ n → MadeAt text src pa pc k made → Wrote outward space s o y (made .rec ∷ []) s₁ o₁ y₁ → y₁ ≤ space
+      pub walking-put : (x : ℕ) (made : Made) (s₁ o₁ : List ℕ) (y₁ : ℕ) → x ≡ callNumber text t n src k → x ≡ n → MadeAt text src pa pc k made
+          → Wrote outward space s o y (made .rec ∷ []) s₁ o₁ y₁ → y₁ ≤ space
           → Walking s₀ o₀ i m s₁ o₁ (todo - 1 + made .rec .count) (made .next) y₁
       walking-put x made s₁ o₁ y₁ number plain is w h =
           let c : made .rec .count + (todo - 1) ≡ todo - 1 + made .rec .count = omega arith in
           part s₁ o₁ y₁ (λ S r. made .rec ∷ []) (λ S r. w) (todo - 1 + made .rec .count) (made .next)
           (λ S r.
-              ap (opens S k) left-is
-              ∙ is .opens S (todo - 1) (call-missing text t n starts src ends pa pc S i s r k inside x number plain)
-              ∙ ap (λ (z : ℕ). made .rec ∷ opens S (made .next) z) c)
+          ap (opens S k) left-is
+          ∙ is .opens S (todo - 1) (call-missing text t n starts src ends pa pc S i s r k inside x number plain)
+          ∙ ap (λ (z : ℕ). made .rec ∷ opens S (made .next) z) c)
           h (omega (arith, is .there (todo - 1) (omega (arith, g .there)))) (is .forward)
           (ap (behind src (made .next)) (sym c) ∙ is .ends (todo - 1) ∙ ap (behind src k) (sym left-is))
 
       -- the template of a call is filled
-      module _ (x : ℕ) (s₁ o₁ : List ℕ) (y₁ : ℕ) (filled : Filled outward space text t n starts src ends pa pc k s o y s₁ o₁ y₁) (number : x ≡ callNumber text t n src k) (upto : x ≤ n) (other : x ≡ n → ⊥) where
+      module _ (x : ℕ) (s₁ o₁ : List ℕ) (y₁ : ℕ) (filled : Filled outward space text t n starts src ends pa pc k s o y s₁ o₁ y₁) (number : x ≡ callNumber text t n src k)
+          (upto : x ≤ n) (other : x ≡ n → ⊥) where
         the-call : (S : List (Named Tree)) → ReadyAt i s S → (c : Tree) × (calledAt text S (recAt src k) (drop (k + 1) (recs src)) ≡ some c) × Region starts s (getD starts n 0) x c
         the-call S r = call-found text t n starts src ends pa pc S i s r k inside x number (omega arith)
 
         abbrev content : (S : List (Named Tree)) → ReadyAt i s S → List Rec
         content S r = fill (λ j. opens S (childAt (recs src) k (suc j)) 1) (records (the-call S r .0))
 
-        w : (S : List (Named Tree)) (r : ReadyAt i s S) → Writes s o y (content S r) s₁ o₁ y₁
+        w : (S : List (Named Tree)) (r : ReadyAt i s S) → Wrote outward space s o y (content S r) s₁ o₁ y₁
         unfolding Filled
         w S r = filled S (ready-here S r) (the-call S r .0) (the-call S r .1)
 

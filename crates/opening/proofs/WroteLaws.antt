@@ -50,12 +50,14 @@ module _ (to : Bool) (space : ℕ) where
   pub append-full : (s o : List ℕ) (n : ℕ) (r : Rec) → n ≡ space → Wrote to space s o n (r ∷ []) s o (n + 1)
   append-full s o n r h = full refl refl (omega arith) (omega arith)
 
-pub append-out : (to : Bool) (space : ℕ) (s o o′ : List ℕ) (n : ℕ) (r : Rec) → o′ ≡ put o n r → Small r → to ≡ true → Appendable to space s o n → (n ≡ space → ⊥) → Wrote to space s o n (r ∷ []) s o′ (n + 1)
+pub append-out : (to : Bool) (space : ℕ) (s o o′ : List ℕ) (n : ℕ) (r : Rec) → o′ ≡ put o n r → Small r → to ≡ true → Appendable to space s o n → (n ≡ space → ⊥)
+    → Wrote to space s o n (r ∷ []) s o′ (n + 1)
 unfolding writes
 append-out true space s o o′ n r e m t a k = all refl (ap length e ∙ length-put o n r) refl (omega (arith, a .fits)) e (rw e (recs-put o n r (omega (arith, a .fits, a .there)) m)) refl
 append-out false space s o o′ n r e m t a k = absurd (let z : _≡_ {A = ℕ} 0 1 = cc in omega arith)
 
-pub append-store : (to : Bool) (space : ℕ) (s o s′ : List ℕ) (n : ℕ) (r : Rec) → s′ ≡ put s n r → Small r → to ≡ false → Appendable to space s o n → (n ≡ space → ⊥) → Wrote to space s o n (r ∷ []) s′ o (n + 1)
+pub append-store : (to : Bool) (space : ℕ) (s o s′ : List ℕ) (n : ℕ) (r : Rec) → s′ ≡ put s n r → Small r → to ≡ false → Appendable to space s o n → (n ≡ space → ⊥)
+    → Wrote to space s o n (r ∷ []) s′ o (n + 1)
 unfolding writes
 append-store false space s o s′ n r e m t a k = all (ap length e ∙ length-put s n r) refl refl (omega (arith, a .fits)) e (rw e (recs-put s n r (omega (arith, a .fits, a .there)) m)) refl
 append-store true space s o s′ n r e m t a k = absurd (let z : _≡_ {A = ℕ} 0 1 = cc in omega arith)
@@ -69,7 +71,8 @@ take-recs (suc m) zero b i h = absurd (omega arith)
 take-recs (suc m) (suc n) b i h = ap (recAt b i ∷_) (take-recs m n b (suc i) (omega arith))
 
 -- the records of the store below `base` stay
-pub wrote-keeps : (to : Bool) (space base : ℕ) (s o s′ o′ : List ℕ) (n y : ℕ) (l : List Rec) → (to ≡ false → base ≤ n) → y ≤ space → Wrote to space s o n l s′ o′ y → recsFrom s′ 0 base ≡ recsFrom s 0 base
+pub wrote-keeps : (to : Bool) (space base : ℕ) (s o s′ o′ : List ℕ) (n y : ℕ) (l : List Rec) → (to ≡ false → base ≤ n) → y ≤ space → Wrote to space s o n l s′ o′ y
+    → recsFrom s′ 0 base ≡ recsFrom s 0 base
 wrote-keeps to space base s o s′ o′ n y l low h (full a b c d) = absurd (omega arith)
 wrote-keeps true space base s o s′ o′ n y l low h (all a b c d e f g) = rw g
 wrote-keeps false space base s o s′ o′ n y l low h (all a b c d e f g) =

@@ -1,6 +1,5 @@
 -- A record of the source that is no call, as it is written: itself, or a MacroArg where it stands for a parameter.
 use mathlib.Core.Path.{_≡_}
-use mathlib.Core.Bool.{true}
 use mathlib.Core.Option.{Option, none, some}
 use mathlib.Core.List.{List, _∷_}
 use Prim.Native.Nat.{ℕ, suc, _+_, _*_, _<_, _≤_}

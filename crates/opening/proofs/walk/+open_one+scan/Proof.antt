@@ -2,8 +2,12 @@ use borrow.Author.Needs.{needs}
 use Prim.Native.Nat.{_+_, _-_, _*_}
 use native.Mathlib.Omega.{arith}
 use Rattle.records.specs.Slots.{slots}
-use Rattle.opening.proofs.WalkLaws.{Walking, walking-start, walking-callable, walking-makeable, walking-room, walking-put-full, walking-small, walking-few, walking-put, walking-fillable, walking-call-full, walking-ended, walking-less, walking-call, walking-end}
-use Rattle.opening.proofs.ScanLaws.{Scanning, fillable-starts, fillable-inside, readied-child, scanning-start, scanning-inside, scanning-fits, scanning-childed, scanning-less, scanning-arg-full, scanning-most, scanning-arg, scanning-room, scanning-put-full, scanning-put, scanning-end}
+use Rattle.opening.proofs.WalkLaws.{Walking, walking-start, walking-callable, walking-makeable, walking-room, walking-put-full}
+use Rattle.opening.proofs.WalkLaws.{walking-small, walking-few, walking-put, walking-fillable, walking-call-full, walking-ended}
+use Rattle.opening.proofs.WalkLaws.{walking-less, walking-call, walking-end}
+use Rattle.opening.proofs.ScanLaws.{Scanning, fillable-starts, fillable-inside, readied-child, scanning-start, scanning-inside}
+use Rattle.opening.proofs.ScanLaws.{scanning-fits, scanning-childed, scanning-less, scanning-arg-full, scanning-most}
+use Rattle.opening.proofs.ScanLaws.{scanning-arg, scanning-room, scanning-put-full, scanning-put, scanning-end}
 use Prim.Native.Nat.{ℕ, _<_}
 use borrow.Fn.Kinds.{In}
 use borrow.Fn.PlainCycle.{Measures, is, falls, and}
