@@ -29,7 +29,8 @@ hop-start src at = omega (arith, span-zero (drop at (recs src)))
 hop-there : (src : List ℕ) (at j c a : ℕ) → c ≤ count (treesOf (drop at (recs src))) → a ≡ behind src at j → c - j ≤ count (treesOf (drop a (recs src)))
 hop-there src at j c a h e =
     let d : drop a (recs src) ≡ after (drop at (recs src)) j = ap (λ (i : ℕ). drop i (recs src)) e ∙ sym (drop-drop (span (drop at (recs src)) j) at (recs src)) in
-    let n : count (treesOf (drop a (recs src))) ≡ count (treesOf (drop at (recs src))) - j = ap (λ (rs : List Rec). count (treesOf rs)) d ∙ ap count (treesOf-after (drop at (recs src)) j) ∙ count-others j (treesOf (drop at (recs src))) in
+    let n : count (treesOf (drop a (recs src))) ≡ count (treesOf (drop at (recs src))) - j =
+    ap (λ (rs : List Rec). count (treesOf rs)) d ∙ ap count (treesOf-after (drop at (recs src)) j) ∙ count-others j (treesOf (drop at (recs src))) in
     omega arith
 
 pub hop-inside : (src : List ℕ) (at j c a : ℕ) → c ≤ count (treesOf (drop at (recs src))) → a ≡ behind src at j → j < c → a < slots src

@@ -194,12 +194,17 @@ module _ (space : ℕ) (text t : List ℕ) (n : ℕ) (defs ends s₀ o₀ starts
     pub filling-pattern : Fits w64 (placeIn t x + 2 + arityIn t x)
     filling-pattern = record { fits = omega (arith, place .inside, source .small) }
 
+    -- the index of its pattern
+    abbrev root : ℕ
+    root = placeIn t x + 2 + arityIn t x
+
     abbrev S : List (Named Tree)
     S = openedTemplates text (g .first)
 
     counts : Every (Counted text (g .first)) (this .value .pattern)
     counts =
-        let fine : ExtractorFine text (extractorsIn text defs) ([] ++ g .first) this = fine-at text (extractorsIn text defs) [] (g .first) this (next-one .1) (fine-by (g .first ++ (this ∷ next-one .1)) divided) in
+        let fine : ExtractorFine text (extractorsIn text defs) ([] ++ g .first) this =
+        fine-at text (extractorsIn text defs) [] (g .first) this (next-one .1) (fine-by (g .first ++ (this ∷ next-one .1)) divided) in
         every-map {P = Counted text (extractorsIn text defs)} {R = Counted text (g .first)}
         (λ h ts c v e. c v (rw (sym divided) at (lookup-first (g .first) (this ∷ next-one .1) v (termName text h ts) e))) (this .value .pattern) (fine .pattern .counts)
       where
@@ -223,8 +228,8 @@ module _ (space : ℕ) (text t : List ℕ) (n : ℕ) (defs ends s₀ o₀ starts
           params-in = omega (arith, place .inside);
           inside = place .inside;
           fits = λ k h l o c.
-              fits-calls text (g .first) (fine-first text (g .first) (this ∷ next-one .1) (rw divided at (source .fine))) defs (source .placed) (placeIn t x + 2 + arityIn t x) (this .value .pattern) (place .others-after) (place .tree) counts k h l
-              (omega (arith, end-upto (recs defs) (placeIn t x + 2 + arityIn t x) (recAt defs (placeIn t x + 2 + arityIn t x)) (here defs (placeIn t x + 2 + arityIn t x) (place .inside)), length-recs defs)) o c;
+              fits-calls text (g .first) (fine-first text (g .first) (this ∷ next-one .1) (rw divided at (source .fine))) defs (source .placed) root (this .value .pattern)
+              (place .others-after) (place .tree) counts k h l (omega (arith, end-upto (recs defs) root (recAt defs root) (here defs root (place .inside)), length-recs defs)) o c;
         }
 
     pub filling-readied : Readied text t x starts defs ends (placeIn t x + 2) (arityIn t x) (placeIn t x + 2 + arityIn t x) s
@@ -247,7 +252,9 @@ module _ (space : ℕ) (text t : List ℕ) (n : ℕ) (defs ends s₀ o₀ starts
       listed = tree-records defs (placeIn t x + 2 + arityIn t x) (this .value .pattern) (place .others-after) (source .placed) (place .tree)
 
       content-is : content ≡ openedRecords text S (this .value .params) (records (this .value .pattern) ++ recordsAll (place .others-after)) 1
-      content-is = ap (λ (rs : List Rec). openedRecords text S (paramsAt defs (placeIn t x + 2) (arityIn t x)) rs 1) listed ∙ ap (λ (ps : Trees). openedRecords text S ps (records (this .value .pattern) ++ recordsAll (place .others-after)) 1) (sym (place .params))
+      content-is =
+          ap (λ (rs : List Rec). openedRecords text S (paramsAt defs (placeIn t x + 2) (arityIn t x)) rs 1) listed
+          ∙ ap (λ (ps : Trees). openedRecords text S ps (records (this .value .pattern) ++ recordsAll (place .others-after)) 1) (sym (place .params))
 
       template-is : content ≡ records (openTemplate text S (this .value))
       template-is = content-is ∙ opened-template text S (this .value) (recordsAll (place .others-after))

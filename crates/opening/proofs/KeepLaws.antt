@@ -30,7 +30,11 @@ rows-keep : (text t starts s s′ : List ℕ) (base x : ℕ) (S : List (Named Tr
 rows-keep text t starts s s′ base x [] e r = tt
 rows-keep text t starts s s′ base x (o ∷ S) e r = (
   r .0,
-  record { holds = r .1 .holds ∙ sym (recs-part s s′ base (getD starts x 0) (getD starts (x + 1) 0 - getD starts x 0) e (omega (arith, r .1 .forward, r .1 .inside))); forward = r .1 .forward; inside = r .1 .inside },
+  record {
+    holds = r .1 .holds ∙ sym (recs-part s s′ base (getD starts x 0) (getD starts (x + 1) 0 - getD starts x 0) e (omega (arith, r .1 .forward, r .1 .inside)));
+    forward = r .1 .forward;
+    inside = r .1 .inside;
+  },
   rows-keep text t starts s s′ base (suc x) S e (r .2),
 )
 

@@ -34,12 +34,16 @@ abbrev addTo : ℕ → Option ℕ → Option ℕ
 addTo j none = none
 addTo j (some i) = some (j + i)
 
+-- the first of the parameters from the number j on that has the name w, counted from j
+abbrev soughtFrom : List ℕ → List ℕ → ℕ → ℕ → ℕ → ℕ → Option ℕ
+soughtFrom text src pa pc w j = position text (spelled text w) (firsts (pc - j) (treesOf (drop (pa + j) (recs src))))
+
 -- none of the first j parameters has the name w
 pub record Seeking (text src : List ℕ) (pa pc w j : ℕ) : Type 0 where
   pub params-in : pa + pc ≤ slots src
   pub upto : j ≤ pc
   pub leaves : Leaves (pc - j) (drop (pa + j) (recs src))
-  pub leads : position text (spelled text w) (paramsAt src pa pc) ≡ addTo j (position text (spelled text w) (firsts (pc - j) (treesOf (drop (pa + j) (recs src)))))
+  pub leads : position text (spelled text w) (paramsAt src pa pc) ≡ addTo j (soughtFrom text src pa pc w j)
 
 add-none : (o : Option ℕ) → o ≡ addTo 0 o
 add-none none = refl
@@ -72,15 +76,14 @@ module _ (text src : List ℕ) (pa pc w j : ℕ) (g : Seeking text src pa pc w j
     leaf : (p .count ≡ 0) × Leaves (pc - (j + 1)) (drop (pa + (j + 1)) (recs src))
     leaf = rw (size, spot) at (g .leaves)
 
-    turn : position text (spelled text w) (firsts (pc - j) (treesOf (drop (pa + j) (recs src)))) ≡ pick r (some 0) (next (position text (spelled text w) (firsts (pc - (j + 1)) (treesOf (drop (pa + (j + 1)) (recs src))))))
+    turn : soughtFrom text src pa pc w j ≡ pick r (some 0) (next (soughtFrom text src pa pc w (j + 1)))
     unfolding position firsts others treesOf
     turn = rw (size, spot, leaf .0, ← e)
 
-    turn-here : r ≡ true → position text (spelled text w) (firsts (pc - j) (treesOf (drop (pa + j) (recs src)))) ≡ some 0
+    turn-here : r ≡ true → soughtFrom text src pa pc w j ≡ some 0
     turn-here q = turn ∙ rw q
 
-    turn-next : r ≡ false
-        → position text (spelled text w) (firsts (pc - j) (treesOf (drop (pa + j) (recs src)))) ≡ next (position text (spelled text w) (firsts (pc - (j + 1)) (treesOf (drop (pa + (j + 1)) (recs src)))))
+    turn-next : r ≡ false → soughtFrom text src pa pc w j ≡ next (soughtFrom text src pa pc w (j + 1))
     turn-next q = turn ∙ rw q
 
     pub seeking-here : r ≡ true → Sought pc (position text (spelled text w) (paramsAt src pa pc)) j
@@ -94,7 +97,7 @@ module _ (text src : List ℕ) (pa pc w j : ℕ) (g : Seeking text src pa pc w j
           params-in = g .params-in;
           upto = omega arith;
           leaves = leaf .1;
-          leads = g .leads ∙ ap (addTo j) (turn-next q) ∙ add-next j (position text (spelled text w) (firsts (pc - (j + 1)) (treesOf (drop (pa + (j + 1)) (recs src)))));
+          leads = g .leads ∙ ap (addTo j) (turn-next q) ∙ add-next j (soughtFrom text src pa pc w (j + 1));
         }
 
 -- ---- a record that stands for a parameter

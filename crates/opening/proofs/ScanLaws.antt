@@ -51,6 +51,31 @@ mutual
   args-trees m ∅ e = tt
   args-trees m (t ▸ ts) e = args-append m (records t) (recordsAll ts) (args-tree m t (e .0)) (args-trees m ts (e .1))
 
+-- ---- a child of a record
+
+module _ (text t : List ℕ) (n : ℕ) (starts src ends : List ℕ) (pa pc : ℕ) where
+  module _ (k : ℕ) (s : List ℕ) (S : List (Named Tree)) (r : Ready text t n starts src ends pa pc k s S) where
+    whole : recAt src k .count ≤ count (treesOf (drop (k + 1) (recs src)))
+    whole = all-at (recs src) Placed (r .placed) k (recAt src k) (drop (k + 1) (recs src)) (here src k (r .inside)) .whole
+
+    module _ (c a : ℕ) (child : Child src k c a) where
+      child-inside : a < slots src
+      child-inside = hop-inside src (k + 1) c (recAt src k .count) a whole (child .at) (child .below)
+
+      child-end : endOf (recs src) a ≤ endOf (recs src) k
+      unfolding childAt
+      child-end =
+          let z : recAt src k .count ≡ c + 1 + (recAt src k .count - (c + 1)) = omega (arith, child .below) in
+          let e : behind src (k + 1) (recAt src k .count) ≡ endOf (recs src) k = child-last (recs src) k (recAt src k) (here src k (r .inside)) in
+          omega (arith, hop-end src (k + 1) c a (child .at), ap (span (drop (k + 1) (recs src))) z, span-add (drop (k + 1) (recs src)) (c + 1) (recAt src k .count - (c + 1)))
+
+      child-ready : Ready text t n starts src ends pa pc a s S
+      child-ready = ready-inside text t n starts src ends pa pc S k a s (omega (arith, child .at)) child-inside child-end r
+
+  pub readied-child : (k c a : ℕ) (s : List ℕ) → Child src k c a → Readied text t n starts src ends pa pc k s → Readied text t n starts src ends pa pc a s
+  unfolding Readied
+  readied-child k c a s child e = (e .0, child-ready k s (e .0) (e .1) c a child)
+
 -- ---- filling a template: what is left of it leads to the whole
 
 recs-cons : (s : List ℕ) (j end : ℕ) → j < end → recsFrom s j (end - j) ≡ recAt s j ∷ recsFrom s (j + 1) (end - (j + 1))
@@ -68,30 +93,6 @@ module _ (outward : Bool) (space : ℕ) (text t : List ℕ) (n : ℕ) (starts sr
   -- the argument j of the call at the index k, opened
   abbrev argument : List (Named Tree) → ℕ → ℕ → List Rec
   argument S k j = openedAt text S (paramsAt src pa pc) (recs src) (childAt (recs src) k (suc j)) 1
-
-  -- a child of a record
-  module _ (k : ℕ) (s : List ℕ) (S : List (Named Tree)) (r : ReadyAt k s S) where
-    whole : recAt src k .count ≤ count (treesOf (drop (k + 1) (recs src)))
-    whole = all-at (recs src) Placed (r .placed) k (recAt src k) (drop (k + 1) (recs src)) (here src k (r .inside)) .whole
-
-    module _ (c a : ℕ) (child : Child src k c a) where
-      child-inside : a < slots src
-      child-inside = hop-inside src (k + 1) c (recAt src k .count) a whole (child .at) (child .below)
-
-      child-end : endOf (recs src) a ≤ endOf (recs src) k
-      unfolding childAt
-      child-end =
-          let z : recAt src k .count ≡ c + 1 + (recAt src k .count - (c + 1)) = omega (arith, child .below) in
-          let e : behind src (k + 1) (recAt src k .count) ≡ endOf (recs src) k = child-last (recs src) k (recAt src k) (here src k (r .inside)) in
-          omega (arith, hop-end src (k + 1) c a (child .at), ap (span (drop (k + 1) (recs src))) z, span-add (drop (k + 1) (recs src)) (c + 1) (recAt src k .count - (c + 1)))
-
-      child-ready : ReadyAt a s S
-      child-ready = ready-inside text t n starts src ends pa pc S k a s (omega (arith, child .at)) child-inside child-end r
-
-  module _ (k c a : ℕ) (s : List ℕ) (child : Child src k c a) (e : Readied text t n starts src ends pa pc k s) where
-    pub readied-child : Readied text t n starts src ends pa pc a s
-    unfolding Readied
-    readied-child = (e .0, child-ready k s (e .0) (e .1) c a child)
 
   -- of the template that the record k calls, the records from the slot j of the store up to `end` are left; whatever writes these, filled, after y records
   -- has written the whole; `from` is the index after `last` children of the call
@@ -152,6 +153,9 @@ module _ (outward : Bool) (space : ℕ) (text t : List ℕ) (n : ℕ) (starts sr
     unfolding Readied held
     now-ready = g .readied .1
 
+    children : recAt src k .count ≤ count (treesOf (drop (k + 1) (recs src)))
+    children = whole text t n starts src ends pa pc k s held now-ready
+
     pub scanning-inside : end ≤ slots s
     scanning-inside = omega (arith, g .within, now-ready .base-in)
 
@@ -169,19 +173,23 @@ module _ (outward : Bool) (space : ℕ) (text t : List ℕ) (n : ℕ) (starts sr
 
     -- a child stands after the record
     pub scanning-less : (c a z : ℕ) → Child src k c a → 2 * (slots src - k) ≡ z → 2 * (slots src - a) + 1 < z
-    scanning-less c a z child h = omega (arith, child .at, child-inside k s held now-ready c a child)
+    scanning-less c a z child h = omega (arith, child .at, child-inside text t n starts src ends pa pc k s held now-ready c a child)
 
     module _ (more : j < end) (r : Rec) (is : r ≡ recAt s j) where
       split : recsFrom s j (end - j) ≡ r ∷ recsFrom s (j + 1) (end - (j + 1))
       split = recs-cons s j end more ∙ ap (_∷ recsFrom s (j + 1) (end - (j + 1))) (sym is)
 
+      -- what is left after the record r
+      abbrev later : List (Named Tree) → List Rec
+      later S = fill (argument S k) (recsFrom s (j + 1) (end - (j + 1)))
+
       -- a part of what is left is written
       module _ (s₁ o₁ : List ℕ) (y₁ : ℕ) (l : List (Named Tree) → List Rec) (w : (S : List (Named Tree)) → ReadyAt k s S → Wrote outward space s o y (l S) s₁ o₁ y₁)
-          (splits : (S : List (Named Tree)) → fill (argument S k) (recsFrom s j (end - j)) ≡ l S ++ fill (argument S k) (recsFrom s (j + 1) (end - (j + 1)))) where
+          (splits : (S : List (Named Tree)) → fill (argument S k) (recsFrom s j (end - j)) ≡ l S ++ later S) where
         part-full : space < y₁ → Filled outward space text t n starts src ends pa pc k s₀ o₀ m s₁ o₁ y₁
         unfolding Filled
         part-full h S q c e =
-            g .leads S q c e s₁ o₁ y₁ (rw (splits S) (wrote-stop outward space s o s₁ o₁ y y₁ (l S) (fill (argument S k) (recsFrom s (j + 1) (end - (j + 1)))) h (w S (g .ready S q))))
+            g .leads S q c e s₁ o₁ y₁ (rw (splits S) (wrote-stop outward space s o s₁ o₁ y y₁ (l S) (later S) h (w S (g .ready S q))))
 
         part : (from₁ last₁ : ℕ) → from₁ ≡ behind src (k + 1) last₁ → y₁ ≤ space → Scanning s₀ o₀ k m s₁ o₁ end (j + 1) y₁ from₁ last₁
         unfolding ArgsBelow Readied
@@ -190,11 +198,12 @@ module _ (outward : Bool) (space : ℕ) (text t : List ℕ) (n : ℕ) (starts sr
             let w₁ : Wrote outward space s o y l₁ s₁ o₁ y₁ = w held now-ready in
             let same : length s₁ ≡ length s = wrote-store outward space s o s₁ o₁ y y₁ l₁ w₁ in
             let kept : recsFrom s₁ 0 (getD starts n 0) ≡ recsFrom s 0 (getD starts n 0) = wrote-keeps outward space (getD starts n 0) s o s₁ o₁ y y₁ l₁ (g .room .low) h w₁ in
+            let keep : (S : List (Named Tree)) → ReadyAt k s S → ReadyAt k s₁ S = λ S q. ready-keep text t n starts src ends pa pc S k s s₁ kept same q in
             let tail : recsFrom s₁ (j + 1) (end - (j + 1)) ≡ recsFrom s (j + 1) (end - (j + 1)) = recs-part s s₁ (getD starts n 0) (j + 1) (end - (j + 1)) kept (omega (arith, g .within)) in
             let below : ArgsBelow (recAt src k .count - 1) (r ∷ recsFrom s (j + 1) (end - (j + 1))) = rw split at (g .args) in
             record {
-              readied = (held, ready-keep text t n starts src ends pa pc held k s s₁ kept same now-ready);
-              ready = λ S q. ready-keep text t n starts src ends pa pc S k s s₁ kept same (g .ready S q);
+              readied = (held, keep held now-ready);
+              ready = λ S q. keep S (g .ready S q);
               room = room-next outward space (getD starts n 0) s o s₁ o₁ y y₁ l₁ (g .room) h w₁;
               within = g .within;
               begun = begun;
@@ -202,12 +211,12 @@ module _ (outward : Bool) (space : ℕ) (text t : List ℕ) (n : ℕ) (starts sr
               store-same = same ∙ g .store-same;
               out-same = wrote-out outward space s o s₁ o₁ y y₁ l₁ w₁ ∙ g .out-same;
               leads = λ S q c e s′ o′ z v.
-                  g .leads S q c e s′ o′ z (rw (splits S) (wrote-both outward space s o s₁ o₁ s′ o′ y y₁ z (l S) (fill (argument S k) (recsFrom s (j + 1) (end - (j + 1)))) h (w S (g .ready S q)) (rw tail at v)));
+                  g .leads S q c e s′ o′ z (rw (splits S) (wrote-both outward space s o s₁ o₁ s′ o′ y y₁ z (l S) (later S) h (w S (g .ready S q)) (rw tail at v)));
             }
 
       -- a record is copied
       module _ (kind : r .kind ≡ 38 → ⊥) (s₁ o₁ : List ℕ) (y₁ : ℕ) (w : Wrote outward space s o y (r ∷ []) s₁ o₁ y₁) where
-        copied : (S : List (Named Tree)) → fill (argument S k) (recsFrom s j (end - j)) ≡ (r ∷ []) ++ fill (argument S k) (recsFrom s (j + 1) (end - (j + 1)))
+        copied : (S : List (Named Tree)) → fill (argument S k) (recsFrom s j (end - j)) ≡ (r ∷ []) ++ later S
         unfolding fill isMacroArg
         copied S = rw (split, ne-eqb (r .kind) 38 kind)
 
@@ -226,12 +235,12 @@ module _ (outward : Bool) (space : ℕ) (text t : List ℕ) (n : ℕ) (starts sr
             omega (arith, below .0 (eq-eqb (r .kind) 38 kind))
 
         pub scanning-fits : Fits w64 (r .word1 + 1)
-        scanning-fits = record { fits = omega (arith, few, whole k s held now-ready, trees-few (drop (k + 1) (recs src)), length-drop (k + 1) (recs src), length-recs src, now-ready .small) }
+        scanning-fits = record { fits = omega (arith, few, children, trees-few (drop (k + 1) (recs src)), length-drop (k + 1) (recs src), length-recs src, now-ready .small) }
 
         pub scanning-childed : Childed src ends k from last (r .word1 + 1)
         scanning-childed =
             record {
-              hop = record { ended = ends-later src ends (k + 1) (now-ready .ended); long = now-ready .ends-long; there = omega (arith, few, whole k s held now-ready); begun = g .begun };
+              hop = record { ended = ends-later src ends (k + 1) (now-ready .ended); long = now-ready .ends-long; there = omega (arith, few, children); begun = g .begun };
               below = few;
               inside = now-ready .inside;
             }
@@ -241,9 +250,9 @@ module _ (outward : Bool) (space : ℕ) (text t : List ℕ) (n : ℕ) (starts sr
           unfolding Opened childAt
           wrote S q =
               let e : a ≡ childAt (recs src) k (suc (r .word1)) = child .at ∙ ap (behind src (k + 1)) (add-one (r .word1)) in
-              rw (← e) (opened S (child-ready k s S q (r .word1 + 1) a child))
+              rw (← e) (opened S (child-ready text t n starts src ends pa pc k s S q (r .word1 + 1) a child))
 
-          filled : (S : List (Named Tree)) → fill (argument S k) (recsFrom s j (end - j)) ≡ argument S k (r .word1) ++ fill (argument S k) (recsFrom s (j + 1) (end - (j + 1)))
+          filled : (S : List (Named Tree)) → fill (argument S k) (recsFrom s j (end - j)) ≡ argument S k (r .word1) ++ later S
           unfolding fill isMacroArg
           filled S = rw (split, eq-eqb (r .kind) 38 kind)
 

@@ -161,7 +161,9 @@ module _ (outward : Bool) (space : ℕ) (text t : List ℕ) (n : ℕ) (starts sr
               upto = upto ∙ g .upto;
               store-same = same ∙ g .store-same;
               out-same = wrote-out outward space s o s₁ o₁ y y₁ l₁ w₁ ∙ g .out-same;
-              leads = λ S q s′ o′ z v. let r : ReadyAt i s S = g .ready S q in g .leads S q s′ o′ z (rw (splits S r) (wrote-both outward space s o s₁ o₁ s′ o′ y y₁ z (l S r) (opens S k₁ todo₁) h (w S r) v));
+              leads = λ S q s′ o′ z v.
+                  let r : ReadyAt i s S = g .ready S q in
+                  g .leads S q s′ o′ z (rw (splits S r) (wrote-both outward space s o s₁ o₁ s′ o′ y y₁ z (l S r) (opens S k₁ todo₁) h (w S r) v));
             }
 
       -- a record finds no space, whichever it is: there is a tree to open, and that is one record at least
