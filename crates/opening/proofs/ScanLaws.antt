@@ -262,7 +262,7 @@ module _ (outward : Bool) (space : ℕ) (text t : List ℕ) (n : ℕ) (starts sr
           pub scanning-arg : y₁ ≤ space → Scanning s₀ o₀ k m s₁ o₁ end (j + 1) y₁ a (r .word1 + 1)
           scanning-arg h = part s₁ o₁ y₁ (λ S. argument S k (r .word1)) wrote filled a (r .word1 + 1) (child .at) h
 
-  -- the same with what was written first: so it is found from there
+  -- a record is copied: what was written comes first, since the rest is found from it
   pub scanning-put : (s₀ o₀ : List ℕ) (k m : ℕ) (s o : List ℕ) (end j y from last : ℕ) (r : Rec) (s₁ o₁ : List ℕ) (y₁ : ℕ) → Wrote outward space s o y (r ∷ []) s₁ o₁ y₁
       → r ≡ recAt s j → (r .kind ≡ 38 → ⊥)
       → Scanning s₀ o₀ k m s o end j y from last → j < end → y₁ ≤ space → Scanning s₀ o₀ k m s₁ o₁ end (j + 1) y₁ from last

@@ -7,7 +7,7 @@ use native.Mathlib.Omega.{arith}
 use lib.ListN.{length, take, length-append}
 use lib.Seq.{take-append-le}
 use Rattle.trees.specs.declared.Rec.{Rec}
-use Rattle.records.specs.Slots.{slots, recAt, recsFrom, put, writes}
+use Rattle.records.specs.Slots.{recAt, recsFrom, put, writes}
 use Rattle.records.proofs.Laws.{writes-append, length-put}
 use Rattle.records.proofs.Reading.{length-recsFrom}
 use Rattle.records.proofs.Readback.{Small, recs-put}

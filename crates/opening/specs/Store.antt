@@ -2,7 +2,7 @@
 use mathlib.Core.Path.{_≡_}
 use mathlib.Core.Bool.{false}
 use mathlib.Core.List.{List, []}
-use Prim.Native.Nat.{ℕ, _<_, _≤_}
+use Prim.Native.Nat.{ℕ, _≤_}
 use lib.ListN.{length, getD}
 use Rattle.trees.specs.Tree.{treesOf}
 use Rattle.records.specs.Slots.{slots, recs}
