@@ -1,6 +1,6 @@
 -- What the clause `answer` of an entry fixes is what the call comes to. Assumes nothing.
 use Prim.Native.Nat.{ℕ}
-use mathlib.Core.Path.{_≡_}
+use mathlib.Core.Path.{_≡_, ap₂}
 use mathlib.Core.List.{List, []}
 use lib.ListN.{length}
 use Rattle.records.specs.Slots.{slots}
@@ -8,8 +8,9 @@ use Rattle.tokens.specs.Input.{input}
 use Rattle.parser.specs.Reading.{reading}
 use Rattle.reading.specs.Answered.{Answered}
 use Rattle.templating.specs.Calls.{Ended, making, substituting}
+use Rattle.opening.specs.Answers.{outputs}
 use Rattle.openings.specs.Calls.{Left, openingOf}
-use Rattle.examples.specs.Calls.{isle-read, isle-make-template, isle-substitute, isle-open, answer, lent, comesTo}
+use Rattle.examples.specs.Calls.{isle-read, isle-make-template, isle-substitute, isle-open, answer, lent, lentBoth, ofOutputs, comesTo}
 
 pub read-fixed : (tokens text l : List ℕ) (end n r : ℕ) → Answered (reading (input tokens text end) (slots (lent n))) (length (lent n)) l r
     → answer r [] l ≡ comesTo (isle-read tokens text end n)
@@ -26,7 +27,7 @@ pub substituted-fixed : (text template patterns l : List ℕ) (n r : ℕ) → En
 unfolding comesTo
 substituted-fixed text template patterns l n r a = rw (a .returns, a .output)
 
-pub opened-fixed : (text defs patt s l : List ℕ) (n m r : ℕ) → Left (openingOf text defs patt (lent n) (lent m)) (length (lent n)) (length (lent m)) s l r
+pub opened-fixed : (text defs patt s l : List ℕ) (n m r : ℕ) → Left (openingOf text defs patt (lentBoth n m)) (lentBoth n m) (outputs s l) r
     → answer r s l ≡ comesTo (isle-open text defs patt n m)
 unfolding comesTo
-opened-fixed text defs patt s l n m r a = rw (a .returns, a .store, a .output)
+opened-fixed text defs patt s l n m r a = ap₂ ofOutputs (a .returns) (a .holds)

@@ -4,7 +4,7 @@ use native.Mathlib.Omega.{arith}
 use mathlib.Core.Path.{_≡_, refl, sym, ap, _∙_}
 use mathlib.Core.List.{List, []}
 use lib.ListN.{getD}
-use Rattle.trees.specs.Tree.{Tree, Trees, count, firsts, others, records, treesOf}
+use Rattle.trees.specs.Tree.{Tree, count, firsts, others, records, treesOf}
 use Rattle.trees.specs.Names.{spelled}
 use Rattle.words.specs.Words.{halfAt, wordAt, be4, be8}
 use Rattle.words.specs.Bytes.{sameBytes}
@@ -16,15 +16,19 @@ use Rattle.expansion.specs.Templates.{position, standsFor, makeTemplate, substi
 use Rattle.expansion.specs.Expansion.{Extractors, find, last, butLast, extractor, extractors, termName, NoCall, template, Steps, inOrder, openBy, openTemplate, openedTemplates, opened, bound}
 use Rattle.expansion.specs.Demand.{Opens, StoreOpens}
 use Rattle.expansion.proofs.Examples as trees
-use Rattle.grounds.specs.Refused.{Refused, macro-arg, deep, many, flawed}
-use Rattle.grounds.specs.Opening.{treeOf, Outcome}
-use Rattle.grounds.proofs.Plain.{flawed-plainly}
-use Rattle.opening.specs.Answers.{numberOf, answerOf}
-use Rattle.openings.specs.Calls.{number}
-use Rattle.openings.specs.Meaning.{called, pattern, Meaning, ill-sized, ill-formed, ground, store-full, output-full, accepted, OpeningWorth}
+use Rattle.grounds.specs.declared.Counts.{Counts}
+use Rattle.grounds.specs.Stages.{Nowhere, Refused}
+use Rattle.grounds.specs.Opening.{treeOf, countsOf, Outcome}
+use Rattle.grounds.proofs.StageLaws.{refused-positive}
+use Rattle.grounds.proofs.Exactly.{order-numbered, space-numbered}
+use Rattle.opening.specs.Answers.{Outputs, outputs, numberOf, answerOf}
+use Rattle.openings.specs.Calls.{number, openingOf, Left}
+use Rattle.openings.specs.Meaning.{definitions, called, pattern, due, Meaning, ill-sized, ill-formed, ground, no-space, accepted, OpeningWorth}
+use Rattle.openings.specs.Exactly.{wholeOrder}
 use Rattle.openings.proofs.Theorem.{worth}
+use Rattle.openings.proofs.Exactly.{exactly}
 use Rattle.lexer.specs.Quoted.{bytes}
-use Rattle.examples.specs.Calls.{isle-open, lent, answer, comesTo, accepts, filled, meant, said, outcomes, expected}
+use Rattle.examples.specs.Calls.{isle-open, lentBoth, answer, comesTo, filled, meant, said, outcomes, expected}
 use Rattle.examples.specs.Examples.{rec, source, PQ, Qz, PQ-opened, Qz-opened, table}
 use Rattle.examples.proofs.Examples.{as-written}
 
@@ -33,26 +37,20 @@ not-refused : (n k : ℕ) → (n ≡ 0 → ⊥) → refusalOf (refused n k) ≡ 
 unfolding refused
 not-refused n k h e = h (omega arith)
 
--- a ground's number is not 0
-numbered : {text : List ℕ} {ds : Trees} {p : Tree} {n k : ℕ} → Refused text ds p n k → n ≡ 0 → ⊥
-numbered (macro-arg a b) e = omega arith
-numbered (deep a b c) e = omega arith
-numbered (many a b c) e = omega arith
-numbered {text} {ds} {p} {n} {k} (flawed a b c d f) e = omega (arith, flawed-plainly text ds p n k .1 d .1)
-
 -- of any call: where the number says no refusal, demand 3 holds of the pattern and of each template
 module _ {text defs patt : List ℕ} where
-  unrefused : {s o : ℕ} {c : Outcome} → Meaning text defs patt s o c → refusalOf (number c) ≡ 0
+  unrefused : {room : Counts} {c : Outcome} → Meaning text defs patt room c → refusalOf (number c) ≡ 0
       → Opens text (called text defs patt) (pattern text defs patt) × StoreOpens text (called text defs patt)
   unfolding number numberOf answerOf
   unrefused (ill-sized n a b) e = absurd (not-refused n 0 b e)
   unrefused (ill-formed a b) e = absurd (not-refused 3 0 (λ h. omega arith) e)
-  unrefused (ground a b n k c) e = absurd (not-refused n k (numbered c) e)
-  unrefused (store-full a b c d) e = absurd (not-refused 6 0 (λ h. omega arith) e)
-  unrefused (output-full a b c d f) e = absurd (not-refused 6 1 (λ h. omega arith) e)
-  unrefused (accepted a b c d f opens templates) e = (opens, templates)
+  unrefused (ground a b n k c) e =
+      absurd (not-refused n k (λ h. omega (arith, refused-positive _ (order-numbered text (definitions text defs patt) (pattern text defs patt)) n k c)) e)
+  unrefused {room = room} (no-space a b c n k d) e =
+      absurd (not-refused n k (λ h. omega (arith, refused-positive _ (space-numbered room (countsOf (due text defs patt))) n k d)) e)
+  unrefused (accepted a b c d opens templates) e = (opens, templates)
 
-  pub demand : {s o s′ o′ : List ℕ} {r : ℕ} → OpeningWorth text defs patt s o s′ o′ r → refusalOf r ≡ 0
+  pub demand : {b b′ : Outputs} {r : ℕ} → OpeningWorth text defs patt b b′ r → refusalOf r ≡ 0
       → Opens text (called text defs patt) (pattern text defs patt) × StoreOpens text (called text defs patt)
   demand w e = unrefused (w .meaning) (rw (w .ended .returns) at e)
 
@@ -64,15 +62,31 @@ extractorsPQ = called source PQ Qz
 abbrev pub patternQz : Tree
 patternQz = pattern source PQ Qz
 
--- the fifteenth row of the table
-row : comesTo (isle-open source PQ Qz 16 11) ≡ said (isle-open source PQ Qz 16 11) (accepts 11 PQ-opened Qz-opened)
-unfolding outcomes expected table
-row = ap (λ answers. getD answers 14 (answer 0 [] [])) as-written
+-- a row of the table, where it has been computed, says what a call leaves
+row-left : (s o n : ℕ) (k l : List ℕ) → comesTo (isle-open source PQ Qz s o) ≡ answer n k l → Left (openingOf source PQ Qz (lentBoth s o)) (lentBoth s o) (outputs k l) n
+unfolding comesTo
+row-left s o n k l e = record { returns = sym (ap (λ a. a .number) e); holds = sym (ap (λ a. outputs (a .store) (a .output)) e) }
 
-pub Qz-worth : OpeningWorth source PQ Qz (lent 16) (lent 11) (filled 16 PQ-opened) (filled 11 Qz-opened) (result.accepted 11)
-unfolding comesTo said meant
-Qz-worth = worth source PQ Qz (lent 16) (lent 11) (filled 16 PQ-opened) (filled 11 Qz-opened) (result.accepted 11)
-    (record { returns = sym (ap (λ a. a .number) row); store = sym (ap (λ a. a .store) row); output = sym (ap (λ a. a .output) row) })
+-- the fifteenth row of the table: `(Q z)` opens to 11 records
+Qz-left : Left (openingOf source PQ Qz (lentBoth 16 11)) (lentBoth 16 11) (outputs (filled 16 PQ-opened) (filled 11 Qz-opened)) (result.accepted 11)
+unfolding outcomes expected table said meant
+Qz-left = row-left 16 11 (result.accepted 11) (filled 16 PQ-opened) (filled 11 Qz-opened) (ap (λ answers. getD answers 14 (answer 0 [] [])) as-written)
+
+-- the sixteenth: space for 10 gives 6
+Qz-full : Left (openingOf source PQ Qz (lentBoth 16 10)) (lentBoth 16 10) (outputs (filled 16 []) (filled 10 [])) (result.refused 6 1)
+unfolding outcomes expected table said meant
+Qz-full = row-left 16 10 (result.refused 6 1) (filled 16 []) (filled 10 []) (ap (λ answers. getD answers 15 (answer 0 [] [])) as-written)
+
+pub Qz-worth : OpeningWorth source PQ Qz (lentBoth 16 11) (outputs (filled 16 PQ-opened) (filled 11 Qz-opened)) (result.accepted 11)
+Qz-worth = worth source PQ Qz (lentBoth 16 11) (outputs (filled 16 PQ-opened) (filled 11 Qz-opened)) (result.accepted 11) Qz-left
+
+-- no ground holds; and where there is space for 10, 6 at 1 does and none before it
+pub Qz-passes : Nowhere (Refused (wholeOrder source PQ Qz (lentBoth 16 11)))
+unfolding result.accepted
+Qz-passes = exactly source PQ Qz (lentBoth 16 11) (outputs (filled 16 PQ-opened) (filled 11 Qz-opened)) (result.accepted 11) Qz-left .accepted .0 refl
+
+pub Qz-ground : Refused (wholeOrder source PQ Qz (lentBoth 16 10)) 6 1
+Qz-ground = exactly source PQ Qz (lentBoth 16 10) (outputs (filled 16 []) (filled 10 [])) (result.refused 6 1) Qz-full .refused 6 1 (omega arith) (omega arith) .0 refl
 
 pub Qz-opens : Opens source extractorsPQ patternQz
 unfolding result.accepted

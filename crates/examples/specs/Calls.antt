@@ -8,6 +8,7 @@ use Rattle.tokens.specs.Input.{input}
 use Rattle.grounds.specs.Opening.{Outcome}
 use Rattle.parser.specs.Reading as reader
 use Rattle.templating.specs.Calls as lists
+use Rattle.opening.specs.Answers.{Outputs, outputs}
 use Rattle.openings.specs.Calls as opens
 
 -- the bytes lent to be read; of a store or an output, for how many records there is space
@@ -36,14 +37,22 @@ ofReading g out = answer (reader.number g) [] (reader.bytes (length out) g)
 abbrev pub ofCall : lists.Call → List ℕ → Answer
 ofCall c out = answer (lists.number c) [] (lists.bytes (length out) c)
 
-abbrev pub ofOutcome : Outcome → List ℕ → List ℕ → Answer
-ofOutcome c store out = answer (opens.number c) (opens.stored (length store) c) (opens.written (length out) c)
+-- by what the outputs then hold
+abbrev pub ofOutputs : ℕ → Outputs → Answer
+ofOutputs r b = answer r (b .store) (b .output)
+
+abbrev pub ofOutcome : Outcome → Outputs → Answer
+ofOutcome c b = ofOutputs (opens.number c) (opens.filled b c)
+
+-- the store and the output as they are lent
+abbrev pub lentBoth : ℕ → ℕ → Outputs
+lentBoth store out = outputs (lent store) (lent out)
 
 unfoldable pub comesTo : Call → Answer
 comesTo (isle-read tokens text end out) = ofReading (reader.reading (input tokens text end) (slots (lent out))) (lent out)
 comesTo (isle-make-template text pattern params out) = ofCall (lists.making text pattern params (lent out)) (lent out)
 comesTo (isle-substitute text template patterns out) = ofCall (lists.substituting text template patterns (lent out)) (lent out)
-comesTo (isle-open text defs pattern store out) = ofOutcome (opens.openingOf text defs pattern (lent store) (lent out)) (lent store) (lent out)
+comesTo (isle-open text defs pattern store out) = ofOutcome (opens.openingOf text defs pattern (lentBoth store out)) (lentBoth store out)
 
 -- ---- what document 01 says of a call
 

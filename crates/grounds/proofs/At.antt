@@ -1,24 +1,23 @@
 -- The records of a lent list by their indices, and the trees that begin there. Assumes nothing.
 use mathlib.Core.Path.{_≡_, refl, sym, ap, _∙_}
 use mathlib.Core.Bool.{true}
-use mathlib.Core.List.{List, [], _∷_, _++_}
+use mathlib.Core.List.{List, [], _∷_}
 use Prim.Native.Nat.{ℕ, zero, suc, _+_, _-_, _<_, _≤_}
-use native.Mathlib.Nat.{add-zero, zero-add, add-comm, suc-add, add-suc}
-use native.Mathlib.Numerals.{add-one}
+use native.Mathlib.Nat.{add-zero, zero-add, add-comm}
 use native.Mathlib.Decide.{decLt}
 use native.Mathlib.Omega.{arith}
-use lib.ListN.{length, drop, length-drop, length-take}
+use lib.ListN.{length, drop, length-drop}
 use lib.Seq.{drop-drop, length-take-le}
 use borrow.Author.Tests.{eq-eqb}
 use Rattle.trees.specs.declared.Rec.{Rec}
-use Rattle.trees.specs.Tree.{Tree, Trees, node, ∅, _▸_, count, firsts, others, headOf, records, recordsAll, treesOf}
+use Rattle.trees.specs.Tree.{Trees, node, _▸_, count, firsts, headOf, records, recordsAll, treesOf}
 use Rattle.trees.proofs.Laws.{size-node}
 use Rattle.records.specs.Slots.{slots, recAt, recsFrom, recs}
 use Rattle.records.proofs.Reading.{recs-more, length-recsFrom}
 use Rattle.forms.specs.Lists.{left, skip}
 use Rattle.expansion.specs.Nodes.{isExtractor}
-use Rattle.expansion.specs.Flat.{span, after, endOf, childAt, Placed, All}
-use Rattle.expansion.proofs.SpanLaws.{span-zero, span-le, treesOf-after, count-others}
+use Rattle.expansion.specs.Flat.{span, endOf, childAt, Placed, All}
+use Rattle.expansion.proofs.SpanLaws.{span-le, treesOf-after}
 use Rattle.expansion.proofs.IndexLaws.{child-last, all-at}
 use Rattle.expansion.proofs.ListLaws.{list-firsts}
 use Rattle.grounds.specs.Leaves.{ExtractorPlaced}
@@ -110,9 +109,6 @@ module _ (b : List ℕ) (i : ℕ) (r : Rec) (is : r ≡ recAt b i) (inside : i <
 
   pub two-children : 2 ≤ r .count
   two-children = all-at (recs b) ExtractorPlaced x i r (drop (i + 1) (recs b)) spot .two kind
-
-  pub two-at : 2 ≤ recAt b i .count
-  two-at = rw (← is) two-children
 
   pub second-there : i + 1 < slots b
   second-there = go (decLt (i + 1) (slots b))

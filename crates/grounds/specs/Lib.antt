@@ -1,7 +1,5 @@
-pub mod Grounds
+pub mod Stages
 pub mod Facts
-pub mod Refused
+pub mod Order
 pub mod Opening
 pub mod Leaves
-pub mod Table
-pub mod Judging

@@ -1,10 +1,7 @@
-// The grounds on which opening is refused, judged; and the table of extractors.
-pub mod judge;
-pub mod names;
-pub mod table;
+// The grounds on which opening is refused: definitions and theorems. The one type serves the code that opens.
 
-// Nothing is wrong up to an index, or as many extractors are fine; or document 01's number of a refusal and its place.
-pub enum Judged {
-    Fine(usize),
-    Flawed(u8, usize),
+// How many, for each output that opening writes; or for how many it has room.
+pub struct Counts {
+    pub store: usize,
+    pub output: usize,
 }

@@ -13,6 +13,7 @@ ghost use Rattle.grammar.specs.Meaning.{Worth};
 ghost use Rattle.closed.specs.Closed.{Closed};
 ghost use Rattle.text_grammar.specs.TextMeaning.{TextWorth, TextClosed};
 ghost use Rattle.templating.specs.Calls.{Ended, making, substituting};
+ghost use Rattle.opening.specs.Answers.{outputs};
 ghost use Rattle.openings.specs.Calls.{Left, openingOf};
 ghost use Rattle.openings.specs.Meaning.{OpeningWorth};
 
@@ -85,8 +86,8 @@ pub extern "C" fn isle_open(
     store: &mut [u8],
     out: &mut [u8],
 ) -> u64
-    ensures answer { λ r. ⌜ Left (openingOf (now (text .entry)) (now (defs .entry)) (now (pattern .entry)) (now (store .entry)) (now (out .entry))) (length (now (store .entry))) (length (now (out .entry))) (now (store .exit)) (now (out .exit)) r ⌝ }
-    ensures meaning { λ r. ⌜ OpeningWorth (now (text .entry)) (now (defs .entry)) (now (pattern .entry)) (now (store .entry)) (now (out .entry)) (now (store .exit)) (now (out .exit)) r ⌝ }
+    ensures answer { λ r. ⌜ Left (openingOf (now (text .entry)) (now (defs .entry)) (now (pattern .entry)) (outputs (now (store .entry)) (now (out .entry)))) (outputs (now (store .entry)) (now (out .entry))) (outputs (now (store .exit)) (now (out .exit))) r ⌝ }
+    ensures meaning { λ r. ⌜ OpeningWorth (now (text .entry)) (now (defs .entry)) (now (pattern .entry)) (outputs (now (store .entry)) (now (out .entry))) (outputs (now (store .exit)) (now (out .exit))) r ⌝ }
 {
     openings::open(text, defs, pattern, store, out)
 }

@@ -15,10 +15,10 @@ use Rattle.records.specs.Slots.{slots, recAt, recs}
 use Rattle.expansion.specs.Nodes.{isTerm}
 use Rattle.expansion.specs.Expansion.{Named, find}
 use Rattle.expansion.specs.Flat.{calledAt}
-use Rattle.grounds.specs.Table.{looked}
+use Rattle.judging.specs.Table.{looked}
 use Rattle.grounds.proofs.At.{here}
-use Rattle.grounds.proofs.LookLaws.{found-row, missing-all}
-use Rattle.grounds.proofs.JudgeLaws.{call-second}
+use Rattle.judging.proofs.LookLaws.{found-row, missing-all}
+use Rattle.judging.proofs.CallLaws.{call-second}
 use Rattle.opening.specs.Made.{callNumber}
 use Rattle.opening.specs.Walk.{Region, Ready}
 

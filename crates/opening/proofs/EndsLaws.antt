@@ -17,7 +17,7 @@ use Rattle.expansion.specs.Flat.{span, after, endOf, childAt, Placed, All}
 use Rattle.expansion.proofs.SpanLaws.{span-zero, span-add, treesOf-after, count-others}
 use Rattle.expansion.proofs.IndexLaws.{child-last, all-at}
 use Rattle.grounds.proofs.At.{here, length-recs, end-upto}
-use Rattle.grounds.proofs.JudgeLaws.{tree-inside}
+use Rattle.judging.proofs.ScanLaws.{tree-inside}
 use Rattle.opening.specs.Ends.{EndsFrom, Hop, Childed, behind}
 
 -- ---- over c trees

@@ -25,9 +25,10 @@ use Rattle.expansion.proofs.FlatOpening.{opened-template, store-append}
 use Rattle.expansion.proofs.IndexLaws.{all-at}
 use Rattle.expansion.proofs.StoreLaws.{templates-next, store-next, fine-first}
 use Rattle.grounds.specs.Leaves.{Leaves, ExtractorPlaced}
-use Rattle.grounds.specs.Table.{nameIn, arityIn, placeIn, RowsOf, RowOf, Rows}
+use Rattle.judging.specs.Table.{nameIn, arityIn, placeIn, RowsOf, RowOf, Rows}
 use Rattle.grounds.proofs.At.{drop-from, here, length-recs, end-upto}
-use Rattle.grounds.proofs.JudgeLaws.{tree-inside, row-is}
+use Rattle.judging.proofs.ScanLaws.{tree-inside}
+use Rattle.judging.proofs.RowLaws.{row-is}
 use Rattle.opening.specs.Wrote.{Wrote, all, full}
 use Rattle.opening.specs.Made.{paramsAt}
 use Rattle.opening.specs.Walk.{Region, Ready, Readied, Room, Opened}

@@ -11,7 +11,7 @@ use Rattle.trees.specs.Tree.{Tree}
 use Rattle.records.specs.Slots.{slots, recsFrom, recs}
 use Rattle.expansion.specs.Expansion.{Named}
 use Rattle.expansion.specs.Flat.{endOf}
-use Rattle.grounds.specs.Table.{RowsOf}
+use Rattle.judging.specs.Table.{RowsOf}
 use Rattle.grounds.proofs.At.{drop-from}
 use Rattle.opening.specs.Wrote.{target, Appendable, Wrote}
 use Rattle.opening.specs.Walk.{Region, Ready, Room}

@@ -22,9 +22,10 @@ use Rattle.expansion.specs.Flat.{span, after, endOf, standsAt, Placed, openedAt
 use Rattle.expansion.proofs.SpanLaws.{span-add}
 use Rattle.expansion.proofs.IndexLaws.{all-at, at-parameter, at-plain}
 use Rattle.grounds.specs.Leaves.{Leaves}
-use Rattle.grounds.specs.Table.{looked}
+use Rattle.judging.specs.Table.{looked}
 use Rattle.grounds.proofs.At.{here, past, length-recs, trees-at, end-more}
-use Rattle.grounds.proofs.JudgeLaws.{tree-inside, there-next, call-second}
+use Rattle.judging.proofs.ScanLaws.{tree-inside, there-next}
+use Rattle.judging.proofs.CallLaws.{call-second}
 use Rattle.opening.specs.Ends.{EndsFrom}
 use Rattle.opening.specs.Made.{paramsAt, Params, Located, Makeable, Sought, MadeAt, callNumber}
 

@@ -23,7 +23,7 @@ use Rattle.expansion.proofs.ListLaws.{list-records}
 use Rattle.expansion.proofs.StoreLaws.{call-fits}
 use Rattle.grounds.specs.Leaves.{Leaves}
 use Rattle.grounds.proofs.At.{all-drop, here}
-use Rattle.grounds.proofs.JudgeLaws.{count-rest}
+use Rattle.judging.proofs.CallLaws.{count-rest}
 
 -- ---- a fact of each node of trees is one of each of their records, by its index
 

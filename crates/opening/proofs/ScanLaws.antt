@@ -20,7 +20,7 @@ use Rattle.expansion.proofs.NodeLaws.{some-same}
 use Rattle.expansion.proofs.SpanLaws.{span-add}
 use Rattle.expansion.proofs.IndexLaws.{child-last, all-at}
 use Rattle.grounds.proofs.At.{here, length-recs, end-more}
-use Rattle.grounds.proofs.JudgeLaws.{trees-few}
+use Rattle.judging.proofs.ScanLaws.{trees-few}
 use Rattle.opening.specs.Wrote.{Appendable, Wrote}
 use Rattle.opening.specs.Ends.{Childed, Child, behind}
 use Rattle.opening.specs.Made.{paramsAt}

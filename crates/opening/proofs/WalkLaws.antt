@@ -19,7 +19,7 @@ use Rattle.expansion.proofs.SpanLaws.{span-add, count-firsts}
 use Rattle.expansion.proofs.FlatOpening.{opened-none}
 use Rattle.expansion.proofs.IndexLaws.{all-at, at-call}
 use Rattle.grounds.proofs.At.{here, length-recs, trees-at, end-more}
-use Rattle.grounds.proofs.JudgeLaws.{tree-inside, trees-few}
+use Rattle.judging.proofs.ScanLaws.{tree-inside, trees-few}
 use Rattle.opening.specs.Wrote.{Appendable, Wrote}
 use Rattle.opening.specs.Ends.{EndsFrom, behind}
 use Rattle.opening.specs.declared.made.Made.{Made}

@@ -11,7 +11,7 @@ use Rattle.records.specs.Slots.{slots, recAt, recs}
 use Rattle.expansion.specs.Expansion.{Named}
 use Rattle.expansion.specs.Flat.{span, Placed, All, calledAt, openedAt}
 use Rattle.grounds.specs.Leaves.{Leaves}
-use Rattle.grounds.specs.Table.{looked}
+use Rattle.judging.specs.Table.{looked}
 use Rattle.opening.specs.Ends.{EndsFrom}
 use Rattle.opening.specs.declared.made.Made.{Made}
 

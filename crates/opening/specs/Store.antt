@@ -10,7 +10,7 @@ use Rattle.expansion.specs.Expansion.{Extractors, extractors, openedTemplates}
 use Rattle.expansion.specs.Acceptance.{AllFine}
 use Rattle.expansion.specs.Flat.{Placed, All, storeRecords}
 use Rattle.grounds.specs.Leaves.{ExtractorPlaced}
-use Rattle.grounds.specs.Table.{RowsOf, Table}
+use Rattle.judging.specs.Table.{RowsOf, Table}
 use Rattle.opening.specs.Wrote.{Wrote}
 use Rattle.opening.specs.Ends.{EndsFrom}
 use Rattle.opening.specs.Walk.{Region}

@@ -11,7 +11,7 @@ use Rattle.expansion.specs.Nodes.{Every}
 use Rattle.expansion.specs.Expansion.{Named}
 use Rattle.expansion.specs.Flat.{endOf, childAt, fill, Fits, Placed, All, calledAt, openedAt}
 use Rattle.grounds.specs.Leaves.{Leaves}
-use Rattle.grounds.specs.Table.{RowsOf}
+use Rattle.judging.specs.Table.{RowsOf}
 use Rattle.opening.specs.Wrote.{Wrote, target}
 use Rattle.opening.specs.Ends.{EndsFrom}
 use Rattle.opening.specs.Made.{paramsAt, callNumber}

@@ -1,7 +1,7 @@
 // A record of the source as it is written, and what it calls.
 use crate::ends::end_at;
-use grounds::names::look_up;
-use grounds::names::same_name;
+use judging::names::look_up;
+use judging::names::same_name;
 use records::rec_at;
 use trees::Head;
 use trees::Rec;

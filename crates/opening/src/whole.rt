@@ -3,23 +3,18 @@ use crate::Answer;
 use crate::ends::fill_ends;
 use crate::store::fill_store;
 use crate::walk::open_one;
-use grounds::Judged;
-use grounds::judge::judge_grounds;
+use grounds::Counts;
+use judging::Judged;
+use judging::whole::judge_once;
+use judging::whole::judge_pattern;
 use records::slots;
 ghost use mathlib.Core.Path.{_≡_};
-ghost use mathlib.Core.Bool.{true};
-ghost use mathlib.Core.List.{List};
 ghost use Prim.Native.Nat.{_≤_, _<_};
-ghost use lib.ListN.{length, getD};
-ghost use Rattle.trees.specs.Tree.{Tree};
-ghost use Rattle.records.specs.Slots.{slots, recs};
-ghost use Rattle.forms.specs.Kinds.{definition};
-ghost use Rattle.forms.specs.Forms.{isOne, isMany};
-ghost use Rattle.expansion.specs.Expansion.{Named};
-ghost use Rattle.expansion.specs.Flat.{Placed, All};
-ghost use Rattle.opening.specs.Walk.{Room};
+ghost use lib.ListN.{length};
+ghost use Rattle.records.specs.Slots.{slots};
+ghost use Rattle.judging.specs.Whole.{DefinitionsShaped, PatternShaped};
 ghost use Rattle.opening.specs.Store.{Stored};
-ghost use Rattle.opening.specs.Answers.{spaceOf, ReadyFor, patternSort, PatternOpened, Accepting, Answers, asAnswer};
+ghost use Rattle.opening.specs.Answers.{outputs, spaceOf, PatternOpened, PatternAnswered, TemplatesAsked, PatternAsked, LastAsked, WorkAsked, StoreDone, Accepting, Answers, asAnswer};
 
 // The space of an output: its whole records, but at most 65,536.
 fn space_in(bytes: &[u8]) -> usize
@@ -38,21 +33,39 @@ fn open_templates(
     table: &[u64],
     n: usize,
     defs: &[u8],
-    pattern: &[u8],
     ends: &mut [u32],
     starts: &mut [usize],
     store: &mut [u8],
     out: &mut [u8],
     space: usize,
 ) -> usize
-    requires { ⌜ Accepting (now text) (now table) n (now defs) (now pattern) × ((slots (now defs) ≤ length (now ends)) × (slots (now pattern) ≤ length (now ends))) × (256 < length (now starts)) × (space ≡ spaceOf (now store)) ⌝ }
+    requires { ⌜ TemplatesAsked (now text) (now table) n (now defs) (now ends) (now starts) (now store) space ⌝ }
     ensures { λ y. ⌜ Stored space (now (text .entry)) (now (table .entry)) n (now (defs .entry)) (now (store .entry)) (now (out .entry)) (now (starts .exit)) (now (store .exit)) (now (out .exit)) y ⌝ }
 {
     fill_ends(defs, ends);
     fill_store(text, table, n, defs, ends, starts, store, out, space)
 }
 
-// Writes the opened pattern.
+// The same, for the call of this pattern with this space.
+fn open_store(
+    text: &[u8],
+    table: &[u64],
+    n: usize,
+    defs: &[u8],
+    pattern: &[u8],
+    ends: &mut [u32],
+    starts: &mut [usize],
+    store: &mut [u8],
+    out: &mut [u8],
+    space: Counts,
+) -> usize
+    requires { ⌜ WorkAsked (now text) (now table) n (now defs) (now pattern) (now ends) (outputs (now store) (now out)) space × (256 < length (now starts)) ⌝ }
+    ensures { λ y. ⌜ StoreDone (now (text .entry)) (now (table .entry)) n (now (defs .entry)) (now (pattern .entry)) (outputs (now (store .entry)) (now (out .entry))) space (now (ends .exit)) (now (starts .exit)) (now (store .exit)) (now (out .exit)) y ⌝ }
+{
+    open_templates(text, table, n, defs, ends, starts, store, out, space.store)
+}
+
+// Writes the opened pattern, from the slot `start` on: how many records the output then has, or one more than the space.
 fn open_pattern(
     text: &[u8],
     table: &[u64],
@@ -62,10 +75,11 @@ fn open_pattern(
     starts: &[usize],
     store: &mut [u8],
     out: &mut [u8],
+    start: usize,
     space: usize,
 ) -> usize
-    requires { ⌜ ((S : List (Named Tree)) × ReadyFor (now text) (now table) n (now starts) (now pattern) (now store) S) × All Placed (recs (now pattern)) × (slots (now pattern) ≤ 65536) × (slots (now pattern) ≤ length (now ends)) × Room true space (getD (now starts) n 0) (now store) (now out) 0 ⌝ }
-    ensures { λ y. ⌜ PatternOpened space (now (text .entry)) (now (table .entry)) n (now (starts .entry)) (now (pattern .entry)) (now (store .entry)) (now (out .entry)) (now (store .exit)) (now (out .exit)) y ⌝ }
+    requires { ⌜ PatternAsked (now text) (now table) n (now pattern) (now ends) (now starts) (now store) (now out) start space ⌝ }
+    ensures { λ y. ⌜ PatternOpened start space (now (text .entry)) (now (table .entry)) n (now (starts .entry)) (now (pattern .entry)) (now (store .entry)) (now (out .entry)) (now (store .exit)) (now (out .exit)) y ⌝ }
 {
     fill_ends(pattern, ends);
     open_one(
@@ -81,9 +95,36 @@ fn open_pattern(
         out,
         true,
         0,
-        0,
+        start,
         space,
     )
+}
+
+// The opened pattern at the beginning of the output, after y records in the store: how many each got, or 6.
+fn open_last(
+    text: &[u8],
+    table: &[u64],
+    n: usize,
+    pattern: &[u8],
+    ends: &mut [u32],
+    starts: &[usize],
+    store: &mut [u8],
+    out: &mut [u8],
+    y: usize,
+    space: Counts,
+) -> Answer
+    requires { ⌜ LastAsked (now text) (now table) n (now pattern) (now ends) (now starts) (now store) (now out) y space ⌝ }
+    ensures { λ a. ⌜ PatternAnswered y space (now (text .entry)) (now (table .entry)) n (now (starts .entry)) (now (pattern .entry)) (now (store .entry)) (now (out .entry)) (now (store .exit)) (now (out .exit)) a ⌝ }
+{
+    let o = space.output;
+    let z = open_pattern(text, table, n, pattern, ends, starts, store, out, 0, o);
+    if o < z {
+        return Answer::Refused(6, 1);
+    }
+    Answer::Accepted(Counts {
+        store: y,
+        output: z,
+    })
 }
 
 // Where no ground before space holds: the store, then the output.
@@ -94,24 +135,30 @@ fn open_fine(
     defs: &[u8],
     pattern: &[u8],
     ends: &mut [u32],
-    starts: &mut [usize],
     store: &mut [u8],
     out: &mut [u8],
+    space: Counts,
 ) -> Answer
-    requires { ⌜ Accepting (now text) (now table) n (now defs) (now pattern) × ((slots (now defs) ≤ length (now ends)) × (slots (now pattern) ≤ length (now ends))) × (256 < length (now starts)) ⌝ }
-    ensures { λ a. ⌜ Answers (now (text .entry)) (now (defs .entry)) (now (pattern .entry)) (now (store .entry)) (now (out .entry)) (now (store .exit)) (now (out .exit)) a ⌝ }
+    requires { ⌜ WorkAsked (now text) (now table) n (now defs) (now pattern) (now ends) (outputs (now store) (now out)) space ⌝ }
+    ensures { λ a. ⌜ Answers (now (text .entry)) (now (defs .entry)) (now (pattern .entry)) (outputs (now (store .entry)) (now (out .entry))) (outputs (now (store .exit)) (now (out .exit))) a ⌝ }
 {
-    let s = space_in(store);
-    let o = space_in(out);
-    let y = open_templates(text, table, n, defs, pattern, ends, starts, store, out, s);
-    if s < y {
+    let mut starts = [0usize; 257];
+    let y = open_store(
+        text,
+        table,
+        n,
+        defs,
+        pattern,
+        ends,
+        &mut starts,
+        store,
+        out,
+        space,
+    );
+    if space.store < y {
         return Answer::Refused(6, 0);
     }
-    let z = open_pattern(text, table, n, pattern, ends, starts, store, out, o);
-    if o < z {
-        return Answer::Refused(6, 1);
-    }
-    Answer::Accepted(y, z)
+    open_last(text, table, n, pattern, ends, &starts, store, out, y, space)
 }
 
 // A refusal as the answer.
@@ -119,9 +166,33 @@ fn refusal_of(j: Judged) -> Answer
     ensures { λ a. ⌜ a ≡ asAnswer j ⌝ }
 {
     match j {
-        Judged::Fine(_) => Answer::Accepted(0, 0),
+        Judged::Fine(_) => Answer::Accepted(Counts {
+            store: 0,
+            output: 0,
+        }),
         Judged::Flawed(f, k) => Answer::Refused(f, k),
     }
+}
+
+// The same, with the space of the outputs.
+fn open_judged(
+    text: &[u8],
+    table: &[u64],
+    n: usize,
+    defs: &[u8],
+    pattern: &[u8],
+    ends: &mut [u32],
+    store: &mut [u8],
+    out: &mut [u8],
+) -> Answer
+    requires { ⌜ Accepting (now text) (now table) n (now defs) (now pattern) × (slots (now defs) ≤ length (now ends)) × (slots (now pattern) ≤ length (now ends)) ⌝ }
+    ensures { λ a. ⌜ Answers (now (text .entry)) (now (defs .entry)) (now (pattern .entry)) (outputs (now (store .entry)) (now (out .entry))) (outputs (now (store .exit)) (now (out .exit))) a ⌝ }
+{
+    let space = Counts {
+        store: space_in(store),
+        output: space_in(out),
+    };
+    open_fine(text, table, n, defs, pattern, ends, store, out, space)
 }
 
 // Opens the pattern by the extractors of the definition list. The table of ends is lent.
@@ -133,24 +204,14 @@ pub fn open_into(
     store: &mut [u8],
     out: &mut [u8],
 ) -> Answer
-    requires { ⌜ (isMany (length (now text)) definition (recs (now defs)) ≡ true) × (isOne (length (now text)) patternSort (recs (now pattern)) ≡ true) × (slots (now defs) ≤ 65536) × (slots (now pattern) ≤ 65536) × ((slots (now defs) ≤ length (now ends)) × (slots (now pattern) ≤ length (now ends))) ⌝ }
-    ensures { λ a. ⌜ Answers (now (text .entry)) (now (defs .entry)) (now (pattern .entry)) (now (store .entry)) (now (out .entry)) (now (store .exit)) (now (out .exit)) a ⌝ }
+    requires { ⌜ DefinitionsShaped (now defs) × PatternShaped (now pattern) × (slots (now defs) ≤ length (now ends)) × (slots (now pattern) ≤ length (now ends)) ⌝ }
+    ensures { λ a. ⌜ Answers (now (text .entry)) (now (defs .entry)) (now (pattern .entry)) (outputs (now (store .entry)) (now (out .entry))) (outputs (now (store .exit)) (now (out .exit))) a ⌝ }
 {
     let mut table = [0u64; 768];
-    let j = judge_grounds(text, defs, pattern, &mut table);
+    let f = judge_once(text, defs, &mut table);
+    let j = judge_pattern(text, defs, &table, f, pattern);
     let Judged::Fine(n) = j else {
         return refusal_of(j);
     };
-    let mut starts = [0usize; 257];
-    open_fine(
-        text,
-        &table,
-        n,
-        defs,
-        pattern,
-        ends,
-        &mut starts,
-        store,
-        out,
-    )
+    open_judged(text, &table, n, defs, pattern, ends, store, out)
 }

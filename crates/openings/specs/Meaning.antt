@@ -1,21 +1,20 @@
 -- What isle_open's answer is worth: which ground of document 01 holds, and none before it in the order; or demand 3.
-use Prim.Native.Nat.{ℕ, _<_, _≤_}
+use Prim.Native.Nat.{ℕ}
 use mathlib.Core.Path.{_≡_}
 use mathlib.Core.Bool.{true}
 use mathlib.Core.List.{List}
 use lib.ListN.{length}
-use Rattle.trees.specs.declared.Rec.{Rec}
 use Rattle.trees.specs.Tree.{Tree, Trees, records, recordsAll, treesOf}
 use Rattle.records.specs.Slots.{recs}
 use Rattle.forms.specs.Kinds.{definition}
 use Rattle.forms.specs.Forms.{isOne, isMany}
-use Rattle.expansion.specs.Expansion.{Extractors, extractors, openedTemplates, opened}
+use Rattle.expansion.specs.Expansion.{Extractors, extractors}
 use Rattle.expansion.specs.Demand.{Opens, StoreOpens}
-use Rattle.expansion.specs.Flat.{storeRecords}
-use Rattle.grounds.specs.Grounds.{refusal}
-use Rattle.grounds.specs.Refused.{Refused}
-use Rattle.grounds.specs.Opening.{treeOf, Outcome, accept, refuse}
-use Rattle.opening.specs.Answers.{spaceOf, patternSort}
+use Rattle.grounds.specs.declared.Counts.{Counts}
+use Rattle.grounds.specs.Stages.{refusal, Nowhere, Refused}
+use Rattle.grounds.specs.Order.{order}
+use Rattle.grounds.specs.Opening.{treeOf, Written, countsOf, Fits, ofSpace, Outcome, accept, refuse, allOpened}
+use Rattle.opening.specs.Answers.{Outputs, spaceIn, patternSort}
 use Rattle.templating.specs.Calls.{sizes}
 use Rattle.openings.specs.Calls.{Left}
 
@@ -42,33 +41,27 @@ module _ (text defs patt : List ℕ) where
 
   -- no ground from 4 to 33 holds anywhere
   abbrev pub NoGround : Type 0
-  NoGround = (n k : ℕ) → Refused text definitions pattern n k → ⊥
+  NoGround = Nowhere (Refused (order text definitions pattern))
 
-  -- what the store and the output get
-  abbrev pub templatesOpened : List Rec
-  templatesOpened = storeRecords (openedTemplates text called)
+  -- what the store and the output get: the opened templates, and the opened pattern
+  abbrev pub due : Written
+  due = allOpened text definitions pattern
 
-  abbrev pub patternOpened : List Rec
-  patternOpened = records (opened text called pattern)
-
-  -- with space for s records in the store and for o in the output
-  pub data Meaning (s o : ℕ) : Outcome → Type 0 where
+  -- with so much room
+  pub data Meaning (room : Counts) : Outcome → Type 0 where
     -- 7 or 1
-    ill-sized : (n : ℕ) → n ≡ sizes (length text) (length defs) (length patt) → (n ≡ 0 → ⊥) → Meaning s o (refuse (refusal n 0))
+    ill-sized : (n : ℕ) → n ≡ sizes (length text) (length defs) (length patt) → (n ≡ 0 → ⊥) → Meaning room (refuse (refusal n 0))
     -- 3
-    ill-formed : sizes (length text) (length defs) (length patt) ≡ 0 → (OfKind → ⊥) → Meaning s o (refuse (refusal 3 0))
+    ill-formed : sizes (length text) (length defs) (length patt) ≡ 0 → (OfKind → ⊥) → Meaning room (refuse (refusal 3 0))
     -- 4, 8, 33, 30, 32, 31 at its place, and none before it in the order
-    ground : OfKind → TreesLent → (n k : ℕ) → Refused text definitions pattern n k → Meaning s o (refuse (refusal n k))
-    -- 6 at 0: all else is accepted, and the opened templates are more than the store holds
-    store-full : OfKind → TreesLent → NoGround → s < length templatesOpened → Meaning s o (refuse (refusal 6 0))
-    -- 6 at 1: these fit, and the opened pattern is more than the output holds
-    output-full : OfKind → TreesLent → NoGround → length templatesOpened ≤ s → o < length patternOpened → Meaning s o (refuse (refusal 6 1))
-    -- accepted: demand 3 holds of the pattern and of each template
-    accepted : OfKind → TreesLent → NoGround → length templatesOpened ≤ s → length patternOpened ≤ o → Opens text called pattern → StoreOpens text called
-        → Meaning s o (accept templatesOpened patternOpened)
+    ground : OfKind → TreesLent → (n k : ℕ) → Refused (order text definitions pattern) n k → Meaning room (refuse (refusal n k))
+    -- 6 at 0 or 1: all else is accepted, and there is room for fewer records in the store, or else in the output
+    no-space : OfKind → TreesLent → NoGround → (n k : ℕ) → Refused (ofSpace room (countsOf due)) n k → Meaning room (refuse (refusal n k))
+    -- accepted: all of it fits, and demand 3 holds of the pattern and of each template
+    accepted : OfKind → TreesLent → NoGround → Fits room (countsOf due) → Opens text called pattern → StoreOpens text called → Meaning room (accept due)
 
--- the number r, the store s′ and the output o′ are those of an outcome of which this holds
-pub record OpeningWorth (text defs patt s o s′ o′ : List ℕ) (r : ℕ) : Type 0 where
+-- the number r, and what the outputs b then hold, are those of an outcome of which this holds
+pub record OpeningWorth (text defs patt : List ℕ) (b b′ : Outputs) (r : ℕ) : Type 0 where
   pub outcome : Outcome
-  pub ended : Left outcome (length s) (length o) s′ o′ r
-  pub meaning : Meaning text defs patt (spaceOf s) (spaceOf o) outcome
+  pub ended : Left outcome b b′ r
+  pub meaning : Meaning text defs patt (spaceIn b) outcome

@@ -1,10 +1,10 @@
 -- Comparing what a call returned and left with stored answers: r is the number, l the output, k the store. The bytes lent to be written were
 -- overwritten before the call, and stayed as many: n and m before; n′, or the lengths of s and o, then. Assumes nothing.
 use Prim.Native.Nat.{ℕ, _≤_}
-use mathlib.Core.Path.{_≡_}
+use mathlib.Core.Path.{_≡_, ap₂}
 use mathlib.Core.Bool.{Bool, true, false, not}
 use mathlib.Core.List.{List}
-use lib.ListN.{length, take, length-replicate}
+use lib.ListN.{length, take, replicate, length-replicate}
 use lib.Seq.{length-take-le}
 use borrow.Author.Tests.{eq-eqb, ne-eqb, not-true, not-false}
 use Rattle.records.specs.Slots.{slots}
@@ -14,11 +14,12 @@ use Rattle.reading.specs.Answered.{Answered}
 use Rattle.texts.specs.TextReading.{textReading}
 use Rattle.templates.specs.Answers.{space}
 use Rattle.templating.specs.Calls.{Ended, making, substituting}
-use Rattle.opening.specs.Answers.{spaceOf}
-use Rattle.openings.specs.Calls.{Left, openingOf}
+use Rattle.grounds.specs.Opening.{Outcome, accept, refuse}
+use Rattle.opening.specs.Answers.{Outputs, outputs, spaceOf, spaceIn}
+use Rattle.openings.specs.Calls.{Left, openingOf, zeros, filled}
 use Rattle.replay.specs.declared.output_cases.Entry.{Entry}
 use Rattle.replay.specs.declared.output_cases.Entry.the-variants.{Read, Text, Make, Fill}
-use Rattle.replay.specs.Said.{says, saysBoth, said, opened}
+use Rattle.replay.specs.Said.{says, saysBoth, ofOutputs, said, opened}
 use Rattle.replay.specs.Agreed.{held, agreed, agreedBoth}
 
 -- ---- one output
@@ -59,10 +60,30 @@ output-first entry text first second end n o records answer b h e = rw (← leng
 
 -- ---- opening
 
-module _ (text defs patt s o k l templates records : List ℕ) (n m r answer : ℕ) (e : length s ≡ n) (d : length o ≡ m) (a : Left (openingOf text defs patt s o) (length s) (length o) k l r) where
+-- of the outputs that are lent only the lengths count
+module _ (s o : List ℕ) where
+  abbrev blank : Outputs
+  blank = outputs (replicate (length s) 0) (replicate (length o) 0)
+
+  space-same : spaceIn blank ≡ spaceIn (outputs s o)
+  unfolding spaceIn spaceOf
+  space-same = rw (length-replicate {A = ℕ} (length s) 0, length-replicate {A = ℕ} (length o) 0)
+
+  filled-same : (c : Outcome) → filled blank c ≡ filled (outputs s o) c
+  unfolding filled zeros
+  filled-same (accept w) = rw (length-replicate {A = ℕ} (length s) 0, length-replicate {A = ℕ} (length o) 0)
+  filled-same (refuse r) = rw (length-replicate {A = ℕ} (length s) 0, length-replicate {A = ℕ} (length o) 0)
+
+  opening-same : (text defs patt : List ℕ) → openingOf text defs patt blank ≡ openingOf text defs patt (outputs s o)
+  unfolding openingOf
+  opening-same text defs patt = rw space-same
+
+module _ (text defs patt s o k l templates records : List ℕ) (n m r answer : ℕ) (e : length s ≡ n) (d : length o ≡ m) (a : Left (openingOf text defs patt (outputs s o)) (outputs s o) (outputs k l) r) where
   said-open : saysBoth r k l ≡ opened text defs patt n m
-  unfolding opened openingOf spaceOf
-  said-open = rw (← e, ← d, a .returns, a .store, a .output, length-replicate {A = ℕ} (length s) 0, length-replicate {A = ℕ} (length o) 0)
+  unfolding opened
+  said-open =
+      rw (← e, ← d, opening-same s o text defs patt, filled-same s o (openingOf text defs patt (outputs s o)))
+      (ap₂ ofOutputs (a .returns) (a .holds))
 
   pub open-store : (t : Bool) → t ≡ held k templates → not t ≡ true → false ≡ agreedBoth (opened text defs patt n m) answer templates records
   unfolding agreedBoth

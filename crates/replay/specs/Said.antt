@@ -7,6 +7,7 @@ use Rattle.grounds.specs.Opening.{Outcome}
 use Rattle.parser.specs.Reading as reader
 use Rattle.texts.specs.TextReading.{textReading}
 use Rattle.templating.specs.Calls as lists
+use Rattle.opening.specs.Answers.{Outputs, outputs}
 use Rattle.openings.specs.Calls as opens
 use Rattle.replay.specs.declared.output_cases.Entry.{Entry}
 use Rattle.replay.specs.declared.output_cases.Entry.the-variants.{Read, Text, Make, Fill}
@@ -53,9 +54,13 @@ saysBoth r k l = record {
   store = k;
 }
 
-abbrev pub ofOutcome : Outcome → ℕ → ℕ → SaidBoth
-ofOutcome c n m = saysBoth (opens.number c) (opens.stored n c) (opens.written m c)
+-- by what the outputs then hold
+abbrev pub ofOutputs : ℕ → Outputs → SaidBoth
+ofOutputs r b = saysBoth r (b .store) (b .output)
+
+abbrev pub ofOutcome : Outcome → Outputs → SaidBoth
+ofOutcome c b = ofOutputs (opens.number c) (opens.filled b c)
 
 -- of a text, definitions and a pattern, with a store of n bytes and an output of m bytes
 unfoldable pub opened : List ℕ → List ℕ → List ℕ → ℕ → ℕ → SaidBoth
-opened text defs patt n m = ofOutcome (opens.openingOf text defs patt (lent n) (lent m)) n m
+opened text defs patt n m = ofOutcome (opens.openingOf text defs patt (outputs (lent n) (lent m))) (outputs (lent n) (lent m))

@@ -13,7 +13,7 @@ same-length-2 : tie.Need-same-length-2
 same-length-2 c = search needs
 
 returns : tie.Need-returns
-returns c = (c .before .before .before .before .«open» .ensures, worth _ _ _ _ _ _ _ _ (c .before .before .before .before .«open» .ensures))
+returns c = (c .before .before .before .before .«open» .ensures, worth _ _ _ _ _ _ (c .before .before .before .before .«open» .ensures))
 
 pub isle-open-spec : {M : Type 1} → statement M
 isle-open-spec = tie.close (tie.spec open-requires same-length same-length-2 returns)

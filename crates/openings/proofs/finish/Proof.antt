@@ -1,5 +1,4 @@
 use Rattle.openings.proofs.CallLaws.{finish-kept, finish-refused, countable-kept, place-fits}
-use native.Mathlib.Omega.{arith}
 use borrow.Author.Needs.{needs}
 use Rattle.openings.proofs.finish.Statement.{statement}
 use Rattle.openings.proofs.finish.Tie as tie
@@ -8,7 +7,7 @@ enum-known-a : tie.Need-enum-known-a
 enum-known-a c = search needs
 
 keep-requires : tie.Need-keep-requires
-keep-requires c κs = countable-kept _ _ _ (c .before .before .before .a .given .1) (c .before .before .before .before .before .before .before .pre)
+keep-requires c κs = search countable-kept
 
 same-length : tie.Need-same-length
 same-length c = search needs

@@ -25,7 +25,7 @@ same-length-2 : tie.Need-same-length-2
 same-length-2 c = search needs
 
 returns : tie.Need-returns
-returns c = search (keeps, c .accepted .ensures, c .before .before .before .clear-from2 .ensures, c .before .before .before .before .before .before .before .clear-from .ensures, c .before .before .before .before .before .before .before .before .before .before .before .pre)
+returns c = search keeps
 
 pub keep-spec : {M : Type 1} → statement M
 keep-spec =

@@ -1,4 +1,5 @@
-use Rattle.openings.proofs.CallLaws.{wrong-size, wrong-first, wrong-second, right, ready-to-open}
+use mathlib.Core.Path.{refl}
+use Rattle.openings.proofs.CallLaws.{wrong-size, wrong-first, wrong-second, right, first-shaped, second-shaped}
 use Rattle.templating.proofs.CallLaws.{short-first, short-second}
 use Rattle.openings.specs.Calls.{openingOf}
 use borrow.Author.Needs.{needs}
@@ -54,7 +55,7 @@ unfolding openingOf
 returns-3 c = search wrong-second
 
 open-judged-requires : tie.Need-open-judged-requires
-open-judged-requires c κs = ready-to-open _ _ _ _ _ _ (c .before .before .before .before .before .before .before .sizes .ensures) (c .before .before .before .before .before .before .if1 .left) (c .before .before .before .before .before .definitions .ensures) (c .before .before .before .before .if2 .left) (c .before .before .before .one-pattern .ensures) (c .before .before .if3 .left)
+open-judged-requires c κs = (search first-shaped, second-shaped _ _ _ _ (c .before .before .before .before .before .before .before .sizes .ensures) (c .before .before .before .before .before .before .if1 .left) _ _ refl (c .before .before .before .one-pattern .ensures) (c .before .before .if3 .left))
 
 same-length-7 : tie.Need-same-length-7
 same-length-7 c = search needs

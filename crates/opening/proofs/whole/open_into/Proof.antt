@@ -1,15 +1,19 @@
-use native.Mathlib.Omega.{arith}
-use Rattle.grounds.proofs.GroundLaws.{shaped}
-use Rattle.opening.proofs.AnswerLaws.{answer-refused, answer-by, grounds-fine}
+use Rattle.opening.proofs.AnswerLaws.{answer-refused, grounds-fine}
 use borrow.Author.Needs.{needs}
 use Rattle.opening.proofs.whole.open_into.Statement.{statement}
 use Rattle.opening.proofs.whole.open_into.Tie as tie
 
-slice-aggregate-judge-grounds : tie.Need-slice-aggregate-judge-grounds
-slice-aggregate-judge-grounds c = search needs
+slice-aggregate-judge-once : tie.Need-slice-aggregate-judge-once
+slice-aggregate-judge-once c = search needs
 
-judge-grounds-requires : tie.Need-judge-grounds-requires
-judge-grounds-requires c κs = (shaped ((c .before .before .before .before .before .before .before .args .text .now)) _ _ ((c .before .before .before .before .before .before .before .pre) .0) ((c .before .before .before .before .before .before .before .pre) .1) ((c .before .before .before .before .before .before .before .pre) .2) ((c .before .before .before .before .before .before .before .pre) .3), search needs)
+judge-once-requires : tie.Need-judge-once-requires
+judge-once-requires c κs = search needs
+
+slice-aggregate-judge-pattern : tie.Need-slice-aggregate-judge-pattern
+slice-aggregate-judge-pattern c = search needs
+
+judge-pattern-requires : tie.Need-judge-pattern-requires
+judge-pattern-requires c κs = search needs
 
 enum-known-j : tie.Need-enum-known-j
 enum-known-j c = search needs
@@ -21,16 +25,13 @@ refusal-of-requires : tie.Need-refusal-of-requires
 refusal-of-requires c κs = search needs
 
 returns : tie.Need-returns
-returns c = answer-by _ _ _ _ _ _ _ _ _ (c .refusal-of .ensures) (answer-refused _ _ _ _ _ _ _ _ _ _ _ ((c .before .enum-told .given) .1) (c .before .before .before .before .judge-grounds .ensures) ((c .before .before .before .before .before .before .before .before .before .before .before .before .pre) .2) ((c .before .before .before .before .before .before .before .before .before .before .before .before .pre) .3))
+returns c = search answer-refused
 
-slice-aggregate-open-fine : tie.Need-slice-aggregate-open-fine
-slice-aggregate-open-fine c = search needs
+slice-aggregate-open-judged : tie.Need-slice-aggregate-open-judged
+slice-aggregate-open-judged c = search needs
 
-slice-aggregate-open-fine-2 : tie.Need-slice-aggregate-open-fine-2
-slice-aggregate-open-fine-2 c = search needs
-
-open-fine-requires : tie.Need-open-fine-requires
-open-fine-requires c κs = (grounds-fine _ _ _ _ _ _ (c .before .before .before .before .before .before .j .given .1) (c .before .before .before .before .before .before .before .before .before .judge-grounds .ensures) (shaped ((c .before .before .before .before .before .before .before .before .before .before .before .before .before .before .before .before .before .args .text .now)) _ _ ((c .before .before .before .before .before .before .before .before .before .before .before .before .before .before .before .before .before .pre) .0) ((c .before .before .before .before .before .before .before .before .before .before .before .before .before .before .before .before .before .pre) .1) ((c .before .before .before .before .before .before .before .before .before .before .before .before .before .before .before .before .before .pre) .2) ((c .before .before .before .before .before .before .before .before .before .before .before .before .before .before .before .before .before .pre) .3)), (c .before .before .before .before .before .before .before .before .before .before .before .before .before .before .before .before .before .pre) .4, search needs)
+open-judged-requires : tie.Need-open-judged-requires
+open-judged-requires c κs = search (needs, grounds-fine)
 
 same-length : tie.Need-same-length
 same-length c = search needs
@@ -48,15 +49,16 @@ pub open-into-spec : {M : Type 1} → statement M
 open-into-spec =
     tie.close
     (tie.spec
-    slice-aggregate-judge-grounds
-    judge-grounds-requires
+    slice-aggregate-judge-once
+    judge-once-requires
+    slice-aggregate-judge-pattern
+    judge-pattern-requires
     enum-known-j
     enum-told
     refusal-of-requires
     returns
-    slice-aggregate-open-fine
-    slice-aggregate-open-fine-2
-    open-fine-requires
+    slice-aggregate-open-judged
+    open-judged-requires
     same-length
     same-length-2
     same-length-3

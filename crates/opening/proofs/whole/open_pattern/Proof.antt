@@ -1,6 +1,4 @@
-use native.Mathlib.Omega.{arith}
-use Rattle.opening.specs.Walk.{Readied, Opened}
-use Rattle.opening.specs.Answers.{ReadyFor, PatternOpened}
+use Rattle.opening.proofs.AnswerLaws.{pattern-able, pattern-done}
 use borrow.Author.Needs.{needs}
 use Rattle.opening.proofs.whole.open_pattern.Statement.{statement}
 use Rattle.opening.proofs.whole.open_pattern.Tie as tie
@@ -9,8 +7,7 @@ fill-ends-requires : tie.Need-fill-ends-requires
 fill-ends-requires c κs = search needs
 
 open-one-requires : tie.Need-open-one-requires
-unfolding ReadyFor Readied
-open-one-requires c κs = (((c .before .before .before .before .before .before .before .before .before .before .before .before .before .before .pre) .0 .0, (c .before .before .before .before .before .before .before .before .before .before .before .before .before .before .pre) .0 .1 _ (c .before .before .before .before .before .fill-ends .ensures) (omega (arith, (c .before .before .before .before .before .before .before .before .before .before .before .before .before .before .pre) .2, (c .before .before .before .before .before .before .before .before .before .before .before .before .before .before .pre) .3))), (c .before .before .before .before .before .before .before .before .before .before .before .before .before .before .pre) .4)
+open-one-requires c κs = search (needs, pattern-able)
 
 same-length : tie.Need-same-length
 same-length c = search needs
@@ -22,8 +19,7 @@ same-length-3 : tie.Need-same-length-3
 same-length-3 c = search needs
 
 returns : tie.Need-returns
-unfolding ReadyFor PatternOpened Opened
-returns c = λ S r. (c .before .before .before .before .open-one .ensures) S (r _ (c .before .before .before .before .before .before .before .before .before .before .fill-ends .ensures) (omega (arith, (c .before .before .before .before .before .before .before .before .before .before .before .before .before .before .before .before .before .before .before .pre) .2, (c .before .before .before .before .before .before .before .before .before .before .before .before .before .before .before .before .before .before .before .pre) .3)))
+returns c = search pattern-done
 
 pub open-pattern-spec : {M : Type 1} → statement M
 open-pattern-spec =

@@ -1,5 +1,4 @@
-use native.Mathlib.Omega.{arith}
-use Rattle.opening.proofs.AnswerLaws.{accepting-source, space-slots, space-most}
+use Rattle.opening.proofs.AnswerLaws.{templates-source, starts-enough}
 use borrow.Author.Needs.{needs}
 use Rattle.opening.proofs.whole.open_templates.Statement.{statement}
 use Rattle.opening.proofs.whole.open_templates.Tie as tie
@@ -8,7 +7,7 @@ fill-ends-requires : tie.Need-fill-ends-requires
 fill-ends-requires c κs = search needs
 
 fill-store-requires : tie.Need-fill-store-requires
-fill-store-requires c κs = (accepting-source _ _ _ _ _ ((c .before .before .before .before .before .before .before .before .before .before .before .before .before .before .before .before .pre) .0) _ (c .before .before .before .before .before .before .fill-ends .ensures) (omega (arith, (c .before .before .before .before .before .before .before .before .before .before .before .before .before .before .before .before .pre) .1 .0)), omega (arith, (c .before .before .before .before .before .before .before .before .before .before .before .before .before .before .before .before .pre) .2, (c .before .before .before .before .before .before .before .before .before .before .before .before .before .before .before .before .pre) .0 .table .few), space-slots _ _ ((c .before .before .before .before .before .before .before .before .before .before .before .before .before .before .before .before .pre) .3), space-most _ _ ((c .before .before .before .before .before .before .before .before .before .before .before .before .before .before .before .before .pre) .3))
+fill-store-requires c κs = search (needs, templates-source, starts-enough)
 
 same-length : tie.Need-same-length
 same-length c = search needs

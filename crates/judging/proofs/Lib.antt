@@ -1,0 +1,10 @@
+pub mod GivenLaws
+pub mod ShapeLaws
+pub mod LookLaws
+pub mod TableLaws
+pub mod CallLaws
+pub mod RowLaws
+pub mod ScanLaws
+pub mod ExtractorLaws
+pub mod ListLaws
+pub mod WholeLaws

@@ -1,0 +1,40 @@
+use native.Mathlib.Omega.{arith}
+use mathlib.Core.List.{[]}
+use Rattle.judging.proofs.CallLaws.{call-second}
+use Rattle.judging.proofs.CallLaws.{call-plain, call-number}
+use borrow.Author.Needs.{needs}
+use Rattle.judging.proofs.calls.judge_call.Statement.{statement}
+use Rattle.judging.proofs.calls.judge_call.Tie as tie
+
+rec-at-requires : tie.Need-rec-at-requires
+rec-at-requires c κs = search needs
+
+returns : tie.Need-returns
+returns c = call-plain _ _ _ _ _ _ _ (c .before .before .rec-at .ensures) ((c .before .before .before .before .before .before .pre) .2) ((c .before .before .before .before .before .before .pre) .3) (c .if1 .taken)
+
+add-rec-at : tie.Need-add-rec-at
+add-rec-at c = search needs
+
+rec-at-requires-2 : tie.Need-rec-at-requires-2
+rec-at-requires-2 c κs = call-second [] [] 0 0 _ _ _ (c .before .before .rec-at .ensures) ((c .before .before .before .before .before .before .pre) .2) ((c .before .before .before .before .before .before .pre) .3) (omega (arith, (c .if1 .left)))
+
+look-up-requires : tie.Need-look-up-requires
+look-up-requires c κs = search needs
+
+judge-number-requires : tie.Need-judge-number-requires
+judge-number-requires c κs = search needs
+
+returns-2 : tie.Need-returns-2
+returns-2 c = call-number _ _ _ _ _ _ _ (c .before .before .before .before .before .rec-at .ensures) ((c .before .before .before .before .before .before .before .before .before .pre) .2) ((c .before .before .before .before .before .before .before .before .before .pre) .3) (omega (arith, (c .before .before .before .if1 .left))) _ _ _ (c .before .before .rec-at2 .ensures) ((c .before .look-up .ensures) .0) (c .judge-number .ensures)
+
+pub judge-call-spec : {M : Type 1} → statement M
+judge-call-spec =
+    tie.close
+    (tie.spec
+    rec-at-requires
+    returns
+    add-rec-at
+    rec-at-requires-2
+    look-up-requires
+    judge-number-requires
+    returns-2)
