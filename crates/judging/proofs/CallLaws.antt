@@ -122,15 +122,26 @@ unfolding count
 count-rest ∅ = refl
 count-rest (t ▸ ts) = omega arith
 
-module _ (text t : List ℕ) (n earlier : ℕ) (src : List ℕ) (k : ℕ) (r : Rec) (is : r ≡ recAt src k) (inside : k < slots src) (a : All Placed (recs src)) where
-  at : drop k (recs src) ≡ r ∷ drop (k + 1) (recs src)
-  at = here src k inside ∙ ap (_∷ drop (k + 1) (recs src)) (sym is)
-
+module _ (src : List ℕ) (k : ℕ) (r : Rec) (is : r ≡ recAt src k) (inside : k < slots src) (a : All Placed (recs src)) where
   placed : Placed r (drop (k + 1) (recs src))
-  placed = all-at (recs src) Placed a k r (drop (k + 1) (recs src)) at
+  placed = all-at (recs src) Placed a k r (drop (k + 1) (recs src)) (here src k inside ∙ ap (_∷ drop (k + 1) (recs src)) (sym is))
 
+  module _ (term : r .kind ≡ 35) where
+    is-term : isTerm (r .kind) ≡ true
+    unfolding isTerm
+    is-term = eq-eqb (r .kind) 35 term
+
+    -- a Term's name
+    pub call-second : k + 1 < slots src
+    call-second = go (decLt (k + 1) (slots src))
+      where
+        go : Dec (k + 1 < slots src) → k + 1 < slots src
+        go (yes h) = h
+        go (no h) = let z : drop (k + 1) (recs src) ≡ [] = past src (k + 1) (omega arith) in absurd (rw z at (placed .term is-term .1))
+
+module _ (text t : List ℕ) (n earlier : ℕ) (src : List ℕ) (k : ℕ) (r : Rec) (is : r ≡ recAt src k) (inside : k < slots src) (a : All Placed (recs src)) where
   flat : (E : Extractors) → called text E (headOf (recAt src k)) (childrenAt src k) ≡ calledAt text E r (drop (k + 1) (recs src))
-  flat E = rw (← is) (sym (called-flat text r E (drop (k + 1) (recs src)) placed))
+  flat E = rw (← is) (sym (called-flat text r E (drop (k + 1) (recs src)) (placed src k r is inside a)))
 
   no-call : (E : Extractors) → (r .kind ≡ 35 → ⊥) → (rs : List Rec) → calledAt text E r rs ≡ none
   unfolding calledAt isTerm
@@ -142,23 +153,12 @@ module _ (text t : List ℕ) (n earlier : ℕ) (src : List ℕ) (k : ℕ) (r : R
   call-plain q x = rw (flat (x .first), flat (knownAll x), no-call (x .first) q (drop (k + 1) (recs src)), no-call (knownAll x) q (drop (k + 1) (recs src)))
 
   module _ (term : r .kind ≡ 35) where
-    is-term : isTerm (r .kind) ≡ true
-    unfolding isTerm
-    is-term = eq-eqb (r .kind) 35 term
-
-    pub call-second : k + 1 < slots src
-    call-second = go (decLt (k + 1) (slots src))
-      where
-        go : Dec (k + 1 < slots src) → k + 1 < slots src
-        go (yes h) = h
-        go (no h) = let z : drop (k + 1) (recs src) ≡ [] = past src (k + 1) (omega arith) in absurd (rw z at (placed .term is-term .1))
-
     calls-name : (E : Extractors) → calledAt text E r (drop (k + 1) (recs src)) ≡ find (spelled text (recAt src (k + 1) .word1)) E
     unfolding calledAt
-    calls-name E = rw (here src (k + 1) call-second, is-term)
+    calls-name E = rw (here src (k + 1) (call-second src k r is inside a term), is-term src k r is inside a term)
 
     args-are : count (rest (childrenAt src k)) ≡ r .count - 1
-    args-are = count-rest (childrenAt src k) ∙ ap (_- 1) (rw (← is) (count-firsts (r .count) (treesOf (drop (k + 1) (recs src))) (placed .whole)))
+    args-are = count-rest (childrenAt src k) ∙ ap (_- 1) (rw (← is) (count-firsts (r .count) (treesOf (drop (k + 1) (recs src))) (placed src k r is inside a .whole)))
 
     pub call-number : (i : Rec) (x y : ℕ) → i ≡ recAt src (k + 1) → x ≡ looked text t (i .word1) 0 n → y ≡ byNumber t n earlier x (r .count) → MarkedAt (itsFlaw text t n earlier) src k y
     unfolding MarkedAt callFlaw

@@ -6,6 +6,8 @@ use native.Mathlib.Numerals.{add-one}
 use native.Mathlib.Decide.{decLt}
 use native.Mathlib.Omega.{arith}
 use lib.ListN.{length, drop, length-drop}
+use mir.Syntax.{w64}
+use mir.Val.{Fits}
 use Rattle.trees.specs.declared.Rec.{Rec}
 use Rattle.trees.specs.declared.Head.{Head}
 use Rattle.trees.specs.Tree.{Trees, ∅, _▸_, _⧺_, count, firsts, others, headOf, treesOf}
@@ -59,12 +61,14 @@ module _ (f : Head → Trees → ℕ) where
       (sym (marks-⧺ (firsts (r .count) (treesOf rs)) (firsts m (others (r .count) (treesOf rs)))) ∙ ap (marksAll f) (sym (firsts-add (r .count) m (treesOf rs))))
 
 pub record Scanning {A : Type 0} (f : A → Head → Trees → ℕ) (src : List ℕ) (at trees todo k : ℕ) : Type 0 where
+  pub few : slots src ≤ 65536
+  pub placed : All Placed (recs src)
   pub there : todo ≤ count (treesOf (drop k (recs src)))
   pub ends : k + span (drop k (recs src)) todo ≡ at + span (drop at (recs src)) trees
   pub leads : (x : A) → firstFrom at (marksAll (f x) (firsts trees (treesOf (drop at (recs src))))) ≡ firstFrom k (marksAll (f x) (firsts todo (treesOf (drop k (recs src)))))
 
-pub scanning-start : {A : Type 0} (f : A → Head → Trees → ℕ) (src : List ℕ) (at trees : ℕ) → trees ≤ count (treesOf (drop at (recs src))) → Scanning f src at trees trees at
-scanning-start f src at trees h = record { there = h; ends = refl; leads = λ x. refl }
+pub scanning-start : {A : Type 0} (f : A → Head → Trees → ℕ) (src : List ℕ) (at trees : ℕ) → slots src ≤ 65536 → All Placed (recs src) → trees ≤ count (treesOf (drop at (recs src))) → Scanning f src at trees trees at
+scanning-start f src at trees l a h = record { few = l; placed = a; there = h; ends = refl; leads = λ x. refl }
 
 module _ {A : Type 0} (f : A → Head → Trees → ℕ) (src : List ℕ) (at trees todo k : ℕ) (g : Scanning f src at trees todo k) where
   pub scanning-end : todo ≤ 0 → Scanned f src at trees (Fine k)
@@ -74,13 +78,19 @@ module _ {A : Type 0} (f : A → Head → Trees → ℕ) (src : List ℕ) (at tr
       let s : span (drop k (recs src)) todo ≡ 0 = rw z (span-zero (drop k (recs src))) in
       record { gives = λ x. sym (g .leads x ∙ rw z); low = tt; ends = λ m e. let c : m ≡ k = cc in omega (arith, g .ends) }
 
-  pub scanning-small : todo ≤ slots src
-  scanning-small = omega (arith, g .there, trees-few (drop k (recs src)), length-drop k (recs src), length-recs src)
-
   pub scanning-inside : 0 < todo → k < slots src
   scanning-inside h = tree-inside src k todo h (g .there)
 
-  module _ (a : All Placed (recs src)) (more : 0 < todo) (y : ℕ) (judged : MarkedAt f src k y) where
+  pub scanning-few : todo ≤ 65536
+  scanning-few = omega (arith, g .few, g .there, trees-few (drop k (recs src)), length-drop k (recs src), length-recs src)
+
+  pub scanning-on : 0 < todo → Fits w64 (k + 1)
+  scanning-on h = omega (arith, g .few, scanning-inside h)
+
+  pub scanning-less : 0 < todo → slots src - (k + 1) < slots src - k
+  scanning-less h = omega (arith, scanning-inside h)
+
+  module _ (y : ℕ) (judged : MarkedAt f src k y) (more : 0 < todo) where
     split : drop k (recs src) ≡ recAt src k ∷ drop (k + 1) (recs src)
     split = here src k (scanning-inside more)
 
@@ -107,7 +117,9 @@ module _ {A : Type 0} (f : A → Head → Trees → ℕ) (src : List ℕ) (at tr
     unfolding span
     scanning-next r is z =
         record {
-          there = there-next src k todo r is (scanning-inside more) a more (g .there);
+          few = g .few;
+          placed = g .placed;
+          there = there-next src k todo r is (scanning-inside more) (g .placed) more (g .there);
           ends =
               let m : todo ≡ suc (todo - 1) = omega arith in
               let c : recAt src k .count + (todo - 1) ≡ todo - 1 + r .count = rw is (omega arith) in

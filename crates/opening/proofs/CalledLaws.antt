@@ -32,7 +32,7 @@ module _ (text t : List ℕ) (n : ℕ) (starts src ends : List ℕ) (pa pc : ℕ
     unfolding calledAt isTerm
     by-name =
         let e : isTerm (recAt src k .kind) ≡ true = eq-eqb (recAt src k .kind) 35 term in
-        rw (here src (k + 1) (call-second [] [] 0 0 src k (recAt src k) refl inside (r .placed) term), e)
+        rw (here src (k + 1) (call-second src k (recAt src k) refl inside (r .placed) term), e)
 
     number-by : callNumber text t n src k ≡ looked text t (recAt src (k + 1) .word1) 0 (length S)
     unfolding callNumber

@@ -239,4 +239,4 @@ module _ (text t : List ℕ) (n : ℕ) (src : List ℕ) (k : ℕ) (r : Rec) (is 
   call-some e i x p q = q ∙ rw (p, ← is, eq-eqb (r .kind) 35 e)
 
 pub call-name : (src : List ℕ) (k : ℕ) (r : Rec) → r ≡ recAt src k → Located src k → r .kind ≡ 35 → k + 1 < slots src
-call-name src k r is loc term = call-second [] [] 0 0 src k r is (loc .inside) (loc .placed) term
+call-name src k r is loc term = call-second src k r is (loc .inside) (loc .placed) term

@@ -1,7 +1,4 @@
-use native.Mathlib.Omega.{arith}
-use mathlib.Core.List.{[]}
-use Rattle.judging.proofs.CallLaws.{call-second}
-use Rattle.judging.proofs.CallLaws.{call-plain, call-number}
+use Rattle.judging.proofs.CallLaws.{call-second, call-plain, call-number}
 use borrow.Author.Needs.{needs}
 use Rattle.judging.proofs.calls.judge_call.Statement.{statement}
 use Rattle.judging.proofs.calls.judge_call.Tie as tie
@@ -10,13 +7,13 @@ rec-at-requires : tie.Need-rec-at-requires
 rec-at-requires c κs = search needs
 
 returns : tie.Need-returns
-returns c = call-plain _ _ _ _ _ _ _ (c .before .before .rec-at .ensures) ((c .before .before .before .before .before .before .pre) .2) ((c .before .before .before .before .before .before .pre) .3) (c .if1 .taken)
+returns c = search call-plain
 
 add-rec-at : tie.Need-add-rec-at
 add-rec-at c = search needs
 
 rec-at-requires-2 : tie.Need-rec-at-requires-2
-rec-at-requires-2 c κs = call-second [] [] 0 0 _ _ _ (c .before .before .rec-at .ensures) ((c .before .before .before .before .before .before .pre) .2) ((c .before .before .before .before .before .before .pre) .3) (omega (arith, (c .if1 .left)))
+rec-at-requires-2 c κs = search call-second
 
 look-up-requires : tie.Need-look-up-requires
 look-up-requires c κs = search needs
@@ -25,7 +22,7 @@ judge-number-requires : tie.Need-judge-number-requires
 judge-number-requires c κs = search needs
 
 returns-2 : tie.Need-returns-2
-returns-2 c = call-number _ _ _ _ _ _ _ (c .before .before .before .before .before .rec-at .ensures) ((c .before .before .before .before .before .before .before .before .before .pre) .2) ((c .before .before .before .before .before .before .before .before .before .pre) .3) (omega (arith, (c .before .before .before .if1 .left))) _ _ _ (c .before .before .rec-at2 .ensures) ((c .before .look-up .ensures) .0) (c .judge-number .ensures)
+returns-2 c = search call-number
 
 pub judge-call-spec : {M : Type 1} → statement M
 judge-call-spec =
