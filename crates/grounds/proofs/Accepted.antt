@@ -23,7 +23,7 @@ use Rattle.grounds.specs.Facts.{NodeAt, first, below, later, CallFlaw, w
 use Rattle.grounds.specs.Stages.{Nowhere, inTurn}
 use Rattle.grounds.specs.Order.{macroArgs, calls, Site, stagesOf, sites, ofDefinitions, ofBoth, ofPattern, order, grounds}
 use Rattle.grounds.proofs.StageLaws.{AllNowhere, all-nowhere, nowhere-++}
-use Rattle.grounds.proofs.Exactly.{order-numbered}
+use Rattle.grounds.proofs.Exactly.{again-passed, its-calls-passed, order-numbered}
 
 -- ---- no MacroArg
 
@@ -117,9 +117,8 @@ module _ (text : List ℕ) (D : Extractors) where
   one-fine : (i : ℕ) (E R : Extractors) → D ≡ E ++ R → (term t : Tree) (ts : Trees) → AllNowhere (stagesOf text D (site i E (term ▸ t ▸ ts)))
       → EveryIn TermNamed (term ▸ t ▸ ts) → EveryIn NoMacroArg (term ▸ t ▸ ts)
       → ExtractorFine text D E (named (nameOf text term) (record { params = butLast t ts; pattern = last t ts }))
-  unfolding AllNowhere
   one-fine i E R d term t ts w n a =
-      let s = last-every (Sound E) t ts (calls-passed E (term ▸ t ▸ ts) (suc i) (w .1 .0) .1) in
+      let s = last-every (Sound E) t ts (calls-passed E (term ▸ t ▸ ts) (suc i) (its-calls-passed text D (site i E (term ▸ t ▸ ts)) w) .1) in
       record {
         new = new-name (find (nameOf text term) E) refl;
         calls = every-map {P = Sound E} {R = CallsEarlier text D E} (earlier-call E) (last t ts) s;
@@ -128,7 +127,7 @@ module _ (text : List ℕ) (D : Extractors) where
     where
       new-name : (o : Option Extractor) → find (nameOf text term) E ≡ o → find (nameOf text term) E ≡ none
       new-name none e = e
-      new-name (some x) e = absurd (w .0 30 i (refl, refl, (x, e)))
+      new-name (some x) e = absurd (again-passed text D (site i E (term ▸ t ▸ ts)) w 30 i (refl, refl, (x, e)))
 
   all-fine : (ds : Trees) (i : ℕ) (E : Extractors) → D ≡ E ++ extractors text ds → AllNowhere (inTurn (stagesOf text D) (sites text i E ds)) → EveryIn TermNamed ds → EveryIn NoMacroArg ds → AllFine text D E (extractors text ds)
   unfolding extractor extractors sites inTurn

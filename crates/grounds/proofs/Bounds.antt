@@ -12,25 +12,11 @@ use Rattle.forms.proofs.FirstLaws.{length-kindsAll, length-depthsAll}
 use Rattle.expansion.specs.Nodes.{isExtractor}
 use Rattle.expansion.specs.Expansion.{Extractors, extractor, extractors}
 use Rattle.grounds.specs.declared.Counts.{Counts}
-use Rattle.grounds.specs.Stages.{Stage, here, later, Refused, inTurn}
-use Rattle.grounds.specs.Order.{macroArgs, tooDeeps, calls, stagesOf, extractorPlaces, mostExtractors, sites, ofDefinitions, ofBoth, ofPattern, order}
+use Rattle.grounds.specs.Stages.{inTurn}
+use Rattle.grounds.specs.Order.{macroArgs, tooDeeps, stagesOf, extractorPlaces, mostExtractors, sites, ofDefinitions, ofBoth, ofPattern, order}
 use Rattle.grounds.specs.Opening.{ofSpace}
-use Rattle.grounds.proofs.ShapeLaws.{node-inside}
-
-unfoldable pub AllLow : ℕ → List Stage → Type 0
-AllLow m [] = Unit {0}
-AllLow m (S ∷ Ss) = ((n k : ℕ) → S .fact n k → k < m) × AllLow m Ss
-
-pub low-++ : (m : ℕ) (Ss Ts : List Stage) → AllLow m Ss → AllLow m Ts → AllLow m (Ss ++ Ts)
-unfolding AllLow
-low-++ m [] Ts a b = b
-low-++ m (S ∷ Ss) Ts a b = (a .0, low-++ m Ss Ts (a .1) b)
-
-pub refused-low : (m : ℕ) (Ss : List Stage) → AllLow m Ss → (n k : ℕ) → Refused Ss n k → k < m
-unfolding AllLow Refused
-refused-low m [] a n k r = absurd r
-refused-low m (S ∷ Ss) a n k (here f b) = a .0 n k f
-refused-low m (S ∷ Ss) a n k (later w r) = refused-low m Ss (a .1) n k r
+use Rattle.grounds.proofs.StageLaws.{AllLow, low-++}
+use Rattle.grounds.proofs.Exactly.{calls-low, stages-low}
 
 -- ---- the stages of opening, where m records are lent
 
@@ -45,21 +31,17 @@ module _ (text : List ℕ) (m : ℕ) where
   deep-low : (ts : Trees) (i : ℕ) → i + length (recordsAll ts) ≤ m → (n k : ℕ) → tooDeeps ts i .fact n k → k < m
   deep-low ts i h n k f = omega (arith, f .place, f .inside, length-depthsAll ts 0)
 
-  calls-low : (D E : Extractors) (ts : Trees) (i : ℕ) → i + length (recordsAll ts) ≤ m → (n k : ℕ) → calls text D E ts i .fact n k → k < m
-  calls-low D E ts i h n k f = omega (arith, f .place, node-inside ts (f .index) (f .head) (f .children) (f .node-at))
-
   turns-low : (D : Extractors) (list : Trees) (i : ℕ) (E : Extractors) → i + length (recordsAll list) ≤ m → AllLow m (inTurn (stagesOf text D) (sites text i E list))
   unfolding AllLow sites inTurn
   turns-low D ∅ i E h = tt
   turns-low D (node h ts ▸ list) i E l = go (isExtractor (h .kind)) (λ E′. turns-low D list (i + length (records (node h ts))) E′ (omega (arith, size-more (node h ts) list)))
     where
-      size-below : suc i + length (recordsAll ts) ≤ m
-      size-below = omega (arith, size-more (node h ts) list, size-node h ts)
-
       go : (b : Bool) → ((E′ : Extractors) → AllLow m (inTurn (stagesOf text D) (sites text (i + length (records (node h ts))) E′ list)))
           → AllLow m (inTurn (stagesOf text D) (pick b (record { place = i; children = ts; earlier = E } ∷ []) [] ++ sites text (i + length (records (node h ts))) (E ++ pick b (extractor text ts) []) list))
       go false on = on (E ++ [])
-      go true on = (λ n k f. omega (arith, f .1, size-below), (calls-low D E ts (suc i) size-below, on (E ++ extractor text ts)))
+      go true on =
+          low-++ m (stagesOf text D (record { place = i; children = ts; earlier = E })) (inTurn (stagesOf text D) (sites text (i + length (records (node h ts))) (E ++ extractor text ts) list))
+          (stages-low text D (record { place = i; children = ts; earlier = E }) m (omega (arith, size-more (node h ts) list, size-node h ts))) (on (E ++ extractor text ts))
 
   place-low : (ds : Trees) (i k : ℕ) → i + length (recordsAll ds) ≤ m → k < length (extractorPlaces i ds) → getD (extractorPlaces i ds) k 0 < m
   unfolding extractorPlaces
@@ -89,7 +71,7 @@ module _ (text : List ℕ) (m : ℕ) where
               deep-low (p ▸ ∅) (length (recordsAll ds)) all,
               low-++ m (ofDefinitions text ds) (ofPattern text ds p)
                   (λ n k f. rw (f .1) (place-low ds 0 mostExtractors its (f .2)), turns-low D ds 0 [] its)
-                  (calls-low D D (p ▸ ∅) (length (recordsAll ds)) all, tt),
+                  (calls-low text D D (p ▸ ∅) (length (recordsAll ds)) m all, tt),
             ),
           ),
         ),

@@ -4,7 +4,7 @@ use mathlib.Core.Logic.{_↔_}
 use mathlib.Core.Bool.{Bool, true, false}
 use mathlib.Core.Option.{Option, none, some}
 use mathlib.Core.List.{List, [], _++_}
-use Prim.Native.Nat.{ℕ, suc, _<_}
+use Prim.Native.Nat.{ℕ, suc, _+_, _<_, _≤_}
 use native.Mathlib.Omega.{arith}
 use lib.Dec.{eqb, ltb}
 use lib.ListN.{length, getD}
@@ -19,10 +19,10 @@ use Rattle.expansion.specs.Expansion.{find, Extractor, Extractors, extractors, 
 use Rattle.grounds.specs.declared.Counts.{Counts}
 use Rattle.grounds.specs.Facts.{CallFlaw, wrong-count, not-earlier, NamedIn}
 use Rattle.grounds.specs.Stages.{refusal, Nowhere, Refused, single}
-use Rattle.grounds.specs.Order.{byCall, callFlaw, calls, Site, isSome, namedIn, namedAgain, stagesOf, extractorPlaces, mostExtractors, sites, ofDefinitions, ofBoth, ofPattern, order, grounds}
+use Rattle.grounds.specs.Order.{byCall, callFlaw, calls, Site, isSome, namedIn, namedAgain, itsCalls, stagesOf, extractorPlaces, mostExtractors, sites, ofDefinitions, ofBoth, ofPattern, order, grounds}
 use Rattle.grounds.specs.Opening.{ofSpace}
-use Rattle.grounds.proofs.StageLaws.{Numbered, AllNumbered, refused-exactly, passed-exactly, numbered-++, numbered-turn}
-use Rattle.grounds.proofs.ShapeLaws.{single-numbered, listed-numbered, within-numbered}
+use Rattle.grounds.proofs.StageLaws.{Numbered, AllNumbered, refused-exactly, passed-exactly, numbered-++, numbered-turn, AllNowhere, AllLow}
+use Rattle.grounds.proofs.ShapeLaws.{node-inside, single-numbered, listed-numbered, within-numbered}
 
 -- ---- calls
 
@@ -44,6 +44,9 @@ module _ (text : List ℕ) (D E : Extractors) where
   unfolding callFlaw
   call-back h us n (wrong-count x p q) = (rw (p, ne-eqb (count (rest us)) (count (x .params)) q), omega arith)
   call-back h us n (not-earlier x p q) = (rw (p, q), omega arith)
+
+  pub calls-low : (ts : Trees) (i m : ℕ) → i + length (recordsAll ts) ≤ m → (n k : ℕ) → calls text D E ts i .fact n k → k < m
+  calls-low ts i m h n k f = omega (arith, f .place, node-inside ts (f .index) (f .head) (f .children) (f .node-at))
 
   pub calls-numbered : (ts : Trees) (i : ℕ) → Numbered (calls text D E ts i)
   calls-numbered ts i = within-numbered (callFlaw text D E) (CallFlaw text D E) call-to call-back ts i
@@ -70,9 +73,24 @@ module _ (text : List ℕ) (D : Extractors) (x : Site) where
       single-numbered 30 (x .place) (NamedIn text (x .earlier) (x .children)) (namedIn text (x .earlier) (x .children)) (omega arith)
       (named-to text (x .earlier) (x .children)) (named-back text (x .earlier) (x .children))
 
+  -- what each of them owes: numbers that are those of its fact, and places among the extractor's records
   pub stages-numbered : AllNumbered (stagesOf text D x)
   unfolding AllNumbered
   stages-numbered = (again-numbered, (calls-numbered text D (x .earlier) (x .children) (suc (x .place)), tt))
+
+  pub stages-low : (m : ℕ) → suc (x .place) + length (recordsAll (x .children)) ≤ m → AllLow m (stagesOf text D x)
+  unfolding AllLow
+  stages-low m h = (λ n k f. omega (arith, f .1), (calls-low text D (x .earlier) (x .children) (suc (x .place)) m h, tt))
+
+  -- what each of them leaves where it is passed
+  module _ (passed : AllNowhere (stagesOf text D x)) where
+    pub again-passed : Nowhere (namedAgain text D x .fact)
+    unfolding AllNowhere
+    again-passed = passed .0
+
+    pub its-calls-passed : Nowhere (itsCalls text D x .fact)
+    unfolding AllNowhere
+    its-calls-passed = passed .1 .0
 
 -- ---- the order, and space
 

@@ -1,4 +1,4 @@
--- The verdict on a list of stages is n at k exactly if they refuse with n at k. Assumes nothing.
+-- The verdict on a list of stages is n at k exactly if they refuse with n at k; what holds of every stage. Assumes nothing.
 use mathlib.Core.Path.{_≡_, refl, sym, ap, _∙_}
 use mathlib.Core.Logic.{_↔_}
 use mathlib.Core.Option.{Option, none, some}
@@ -173,3 +173,20 @@ pub nowhere-++ : (Ss Ts : List Stage) → AllNowhere (Ss ++ Ts) → AllNowhere S
 unfolding AllNowhere
 nowhere-++ [] Ts a = (tt, a)
 nowhere-++ (S ∷ Ss) Ts a = let r = nowhere-++ Ss Ts (a .1) in ((a .0, r .0), r .1)
+
+-- ---- places below a bound
+
+unfoldable pub AllLow : ℕ → List Stage → Type 0
+AllLow m [] = Unit {0}
+AllLow m (S ∷ Ss) = ((n k : ℕ) → S .fact n k → k < m) × AllLow m Ss
+
+pub low-++ : (m : ℕ) (Ss Ts : List Stage) → AllLow m Ss → AllLow m Ts → AllLow m (Ss ++ Ts)
+unfolding AllLow
+low-++ m [] Ts a b = b
+low-++ m (S ∷ Ss) Ts a b = (a .0, low-++ m Ss Ts (a .1) b)
+
+pub refused-low : (m : ℕ) (Ss : List Stage) → AllLow m Ss → (n k : ℕ) → Refused Ss n k → k < m
+unfolding AllLow Refused
+refused-low m [] a n k r = absurd r
+refused-low m (S ∷ Ss) a n k (here f b) = a .0 n k f
+refused-low m (S ∷ Ss) a n k (later w r) = refused-low m Ss (a .1) n k r

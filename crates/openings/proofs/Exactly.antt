@@ -18,10 +18,10 @@ use Rattle.grounds.specs.declared.Counts.{Counts}
 use Rattle.grounds.specs.Stages.{Stage, Refusal, refusal, _orElse_, firstFrom, Nowhere, here, later, Refused, verdict}
 use Rattle.grounds.specs.Order.{order}
 use Rattle.grounds.specs.Opening.{countsOf, ofSpace, after, opening}
-use Rattle.grounds.proofs.StageLaws.{NumberAt, Numbered, AllNumbered, numbered-++, same-refusal, refused-exactly, passed-exactly, refused-positive, AllNowhere, all-nowhere, nowhere-++}
+use Rattle.grounds.proofs.StageLaws.{NumberAt, Numbered, AllNumbered, numbered-++, same-refusal, refused-exactly, passed-exactly, refused-positive, AllNowhere, all-nowhere, nowhere-++, low-++, refused-low}
 use Rattle.grounds.proofs.ShapeLaws.{one-number, single-numbered}
 use Rattle.grounds.proofs.Exactly.{order-numbered, space-numbered}
-use Rattle.grounds.proofs.Bounds.{low-++, refused-low, order-low, space-low}
+use Rattle.grounds.proofs.Bounds.{order-low, space-low}
 use Rattle.grounds.proofs.At.{length-recs}
 use Rattle.opening.specs.Answers.{Outputs, numberOf, answerOf, spaceIn, spaceOf, patternSort}
 use Rattle.opening.proofs.AnswerLaws.{space-most}
