@@ -169,7 +169,7 @@ module _ (text : List ℕ) (ds : Trees) (p : Tree) (terms : EveryIn TermNamed ds
   unfolding order ofBoth AllNowhere
   acceptable =
       let w = all-nowhere (order text ds p) (order-numbered text ds p) e in
-      let v = nowhere-++ (ofBoth text ds p) (ofDefinitions text ds ++ ofPattern text ds p) w in
+      let v = nowhere-++ (ofBoth ds p) (ofDefinitions text ds ++ ofPattern text ds p) w in
       let u = nowhere-++ (ofDefinitions text ds) (ofPattern text ds p) (v .1) in
       record { definitions = definitions-fine text ds terms (v .0 .0) (u .0); pattern = pattern-fine text ds p term (v .0 .1 .0) (u .1) }
 

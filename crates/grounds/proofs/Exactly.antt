@@ -107,7 +107,7 @@ module _ (text : List ℕ) (ds : Trees) where
   )
 
   module _ (p : Tree) where
-    both-numbered : AllNumbered (ofBoth text ds p)
+    both-numbered : AllNumbered (ofBoth ds p)
     unfolding ofBoth AllNumbered
     both-numbered = (
       listed-numbered 4 MacroArg (kindsAll ds) 0 (omega arith),
@@ -127,7 +127,7 @@ module _ (text : List ℕ) (ds : Trees) where
     pub order-numbered : AllNumbered (order text ds p)
     unfolding order
     order-numbered =
-        numbered-++ (ofBoth text ds p) (ofDefinitions text ds ++ ofPattern text ds p) both-numbered
+        numbered-++ (ofBoth ds p) (ofDefinitions text ds ++ ofPattern text ds p) both-numbered
         (numbered-++ (ofDefinitions text ds) (ofPattern text ds p) definitions-numbered pattern-numbered)
 
 pub space-numbered : (room n : Counts) → AllNumbered (ofSpace room n)

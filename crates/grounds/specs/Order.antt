@@ -95,24 +95,25 @@ module _ (text : List ℕ) where
   unfoldable pub ofDefinitions : Trees → List Stage
   ofDefinitions ds = tooMany (extractorPlaces 0 ds) ∷ inTurn (stagesOf text (extractors text ds)) (sites 0 [] ds)
 
-  -- ---- of the definitions ds and the pattern p
+-- ---- of the definitions ds and the pattern p
 
-  -- 4 of both, then 8 of both
-  unfoldable pub ofBoth : Trees → Tree → List Stage
-  ofBoth ds p =
-      macroArgs ds 0
-      ∷ macroArgs (p ▸ ∅) (length (recordsAll ds))
-      ∷ tooDeeps ds 0
-      ∷ tooDeeps (p ▸ ∅) (length (recordsAll ds))
-      ∷ []
+-- 4 of both, then 8 of both
+unfoldable pub ofBoth : Trees → Tree → List Stage
+ofBoth ds p =
+    macroArgs ds 0
+    ∷ macroArgs (p ▸ ∅) (length (recordsAll ds))
+    ∷ tooDeeps ds 0
+    ∷ tooDeeps (p ▸ ∅) (length (recordsAll ds))
+    ∷ []
 
+module _ (text : List ℕ) where
   -- 31: calls in the pattern
   unfoldable pub ofPattern : Trees → Tree → List Stage
   ofPattern ds p = calls text (extractors text ds) (extractors text ds) (p ▸ ∅) (length (recordsAll ds)) ∷ []
 
   -- THE ORDER
   unfoldable pub order : Trees → Tree → List Stage
-  order ds p = ofBoth ds p ++ (ofDefinitions ds ++ ofPattern ds p)
+  order ds p = ofBoth ds p ++ (ofDefinitions text ds ++ ofPattern ds p)
 
   abbrev pub grounds : Trees → Tree → Option Refusal
   grounds ds p = verdict (order ds p)

@@ -196,7 +196,7 @@ module _ (text defs pattern t : List ℕ) (d : DefinitionsShaped defs) (s : Patt
   others = verdict (ofDefinitions text (treesOf (recs defs)))
 
   -- the trees and the place of the first record of the pattern are those of the lent list
-  both-is : verdict (ofBoth text (treesOf (recs defs)) (treeOf (recs pattern))) ≡ both defs pattern
+  both-is : verdict (ofBoth (treesOf (recs defs)) (treeOf (recs pattern))) ≡ both defs pattern
   unfolding ofBoth verdict
   both-is = rw (← (s .one), size defs (d .placed), orElse-none (found (tooDeeps (treesOf (recs pattern)) (slots defs))))
 
@@ -207,8 +207,8 @@ module _ (text defs pattern t : List ℕ) (d : DefinitionsShaped defs) (s : Patt
   order-is : grounds text (treesOf (recs defs)) (treeOf (recs pattern)) ≡ both defs pattern orElse others orElse its
   unfolding order
   order-is =
-      verdict-++ (ofBoth text (treesOf (recs defs)) (treeOf (recs pattern))) (ofDefinitions text (treesOf (recs defs)) ++ ofPattern text (treesOf (recs defs)) (treeOf (recs pattern)))
-      ∙ ap (verdict (ofBoth text (treesOf (recs defs)) (treeOf (recs pattern))) orElse_) (verdict-++ (ofDefinitions text (treesOf (recs defs))) (ofPattern text (treesOf (recs defs)) (treeOf (recs pattern))))
+      verdict-++ (ofBoth (treesOf (recs defs)) (treeOf (recs pattern))) (ofDefinitions text (treesOf (recs defs)) ++ ofPattern text (treesOf (recs defs)) (treeOf (recs pattern)))
+      ∙ ap (verdict (ofBoth (treesOf (recs defs)) (treeOf (recs pattern))) orElse_) (verdict-++ (ofDefinitions text (treesOf (recs defs))) (ofPattern text (treesOf (recs defs)) (treeOf (recs pattern))))
       ∙ rw (both-is, pattern-is)
 
   pub by-both : (j : Judged) (f k : ℕ) → j ≡ Flawed f k → Answers (both defs pattern) (slots defs + slots pattern) j → Grounded text defs pattern t j

@@ -39,7 +39,8 @@ use Rattle.opening.specs.Ends.{EndsFrom}
 use Rattle.opening.specs.Made.{paramsAt}
 use Rattle.opening.specs.Walk.{Readied, Room, Opened}
 use Rattle.opening.specs.Store.{extractorsIn, Source, Stored}
-use Rattle.opening.specs.Answers.{Outputs, outputs, spaceOf, spaceIn, begun, ReadyFor, PatternOpened, Accepting, TemplatesAsked, PatternAsked, PatternAnswered, LastAsked, Work, WorkAsked, StoreDone, Countable, answerOf, asAnswer, Begin, Answers}
+use Rattle.opening.specs.Answers.{Outputs, outputs, spaceOf, spaceIn, begun, Countable, answerOf}
+use Rattle.opening.specs.Work.{ReadyFor, PatternOpened, Accepting, TemplatesAsked, PatternAsked, PatternAnswered, LastAsked, Work, WorkAsked, StoreDone, asAnswer, Begin, Answers}
 use Rattle.opening.proofs.WroteLaws.{wrote-store}
 use Rattle.opening.proofs.ReadyLaws.{fits-calls, templates-length, tree-records}
 

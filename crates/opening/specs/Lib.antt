@@ -4,3 +4,4 @@ pub mod Made
 pub mod Walk
 pub mod Store
 pub mod Answers
+pub mod Work

@@ -14,7 +14,8 @@ ghost use lib.ListN.{length};
 ghost use Rattle.records.specs.Slots.{slots};
 ghost use Rattle.judging.specs.Whole.{DefinitionsShaped, PatternShaped};
 ghost use Rattle.opening.specs.Store.{Stored};
-ghost use Rattle.opening.specs.Answers.{outputs, spaceOf, PatternOpened, PatternAnswered, TemplatesAsked, PatternAsked, LastAsked, WorkAsked, StoreDone, Accepting, Answers, asAnswer};
+ghost use Rattle.opening.specs.Answers.{outputs, spaceOf};
+ghost use Rattle.opening.specs.Work.{PatternOpened, PatternAnswered, TemplatesAsked, PatternAsked, LastAsked, WorkAsked, StoreDone, Accepting, Answers, asAnswer};
 
 // The space of an output: its whole records, but at most 65,536.
 fn space_in(bytes: &[u8]) -> usize

@@ -21,7 +21,8 @@ use Rattle.grounds.specs.Stages.{refusal}
 use Rattle.grounds.specs.Opening.{treeOf, counts, countsOf, Fits, Outcome, accept, refuse, opening}
 use Rattle.judging.specs.Whole.{DefinitionsShaped, PatternShaped}
 use Rattle.judging.proofs.ShapeLaws.{definitions-shaped, pattern-shaped}
-use Rattle.opening.specs.Answers.{Outputs, outputs, numberOf, Countable, answerOf, spaceOf, spaceIn, begun, Begin, Answers}
+use Rattle.opening.specs.Answers.{Outputs, outputs, numberOf, Countable, answerOf, spaceOf, spaceIn, begun}
+use Rattle.opening.specs.Work.{Begin, Answers}
 use Rattle.opening.specs.declared.Answer.{Answer}
 use Rattle.opening.specs.declared.Answer.the-variants.{Accepted, Refused}
 use Rattle.opening.proofs.AnswerLaws.{space-slots}
