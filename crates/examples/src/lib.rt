@@ -1,1 +1,2 @@
 // No code: definitions and theorems stand in specs/ and proofs/.
+#![tactic(auto)]

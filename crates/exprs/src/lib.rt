@@ -1,5 +1,7 @@
 // Expressions of the Rust's parser: parse_expr, parse_expr_inner_parens and parse_letdef call one another, with one level of
 // depth less for the expressions inside.
+#![tactic(auto)]
+
 pub mod iflets;
 
 ghost use Rattle.std.specs.Prelude.{◌≡◌, ℕ, ◌+◌, ◌-◌, ◌/◌, ◌≤◌, ◌<◌};

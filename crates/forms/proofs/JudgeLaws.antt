@@ -4,7 +4,7 @@ use mathlib.Core.Bool.{Bool, true, false, not, false≢true}
 use Prim.Native.Nat.{ℕ, zero, suc, ◌+◌, ◌*◌, ◌/◌, ◌%◌, ◌≤◌, ◌<◌}
 use native.Mathlib.Omega.{arith}
 use lib.Dec.{eqb, ltb, leb}
-use borrow.Author.Tests.{eq-eqb, ne_eqb, eqb-true, eqb-false, ltb-true, lt-ltb, le-ltb, le-leb, lt-leb, not_true, not_false}
+use borrow.Author.Tests.{eq-eqb, ne_eqb, eqb-true, eqb-false, ltb-true, lt-ltb, le-ltb, le-leb, lt-leb, not-true, not-false}
 use Rattle.trees.specs.declared.Rec.{Rec}
 use Rattle.trees.specs.Choice.{pick}
 use Rattle.forms.specs.declared.Row.{Row}
@@ -108,7 +108,7 @@ module _ (t s : ℕ) (w : Row) (r : Rec) where
 
   pub stands-other : (b : Bool) → b ≡ eqb s (placed w.sort r.word1) → not b ≡ true → false ≡ stands t s w r
   unfolding stands
-  stands-other b e f = rw (← e, not_true b f, false_and, and_false)
+  stands-other b e f = rw (← e, not-true b f, false_and, and_false)
 
   pub stands-flags : w.flags ≤ r.flags → false ≡ stands t s w r
   unfolding stands
@@ -116,17 +116,17 @@ module _ (t s : ℕ) (w : Row) (r : Rec) where
 
   pub stands-position : (b : Bool) → b ≡ position_ok w.position r.pos → not b ≡ true → false ≡ stands t s w r
   unfolding stands
-  stands-position b e f = rw (← e, not_true b f, false_and, and_false, and_false, and_false)
+  stands-position b e f = rw (← e, not-true b f, false_and, and_false, and_false, and_false)
 
   pub stands_words : (b : Bool) → b ≡ words_ok t w.words r.word1 r.word2 → not b ≡ true → false ≡ stands t s w r
   unfolding stands
-  stands_words b e f = rw (← e, not_true b f, false_and, and_false, and_false, and_false, and_false)
+  stands_words b e f = rw (← e, not-true b f, false_and, and_false, and_false, and_false, and_false)
 
   pub stands-all : (x y z : Bool) (n : ℕ) → x ≡ eqb s (placed w.sort r.word1) → y ≡ position_ok w.position r.pos → z ≡ words_ok t w.words r.word1 r.word2 → n ≡ singles w →
       (s ≡ 0 → ⊥) → not x ≡ false → r.flags < w.flags → not y ≡ false → not z ≡ false → leb n r.count ≡ stands t s w r
   unfolding stands
   stands-all x y z n e f g h a b c d i =
-      rw (lt-ltb 0 s (omega arith), true_and, ← e, not_false x b, true_and, lt-ltb r.flags w.flags c, true_and, ← f, not_false y d, true_and, ← g, not_false z i, true_and, h)
+      rw (lt-ltb 0 s (omega arith), true_and, ← e, not-false x b, true_and, lt-ltb r.flags w.flags c, true_and, ← f, not-false y d, true_and, ← g, not-false z i, true_and, h)
 
 -- an Ident where one is expected
 pub name_not : (t s : ℕ) (r : Rec) → NameTaken t s r false

@@ -5,7 +5,7 @@ use mathlib.Core.List.{List, [], ◌∷◌, ◌++◌}
 use Prim.Native.Nat.{ℕ, zero, suc, ◌+◌, ◌-◌, ◌≤◌, ◌<◌}
 use native.Mathlib.Omega.{arith}
 use lib.ListN.{length, length-append, replicate, get_or-replicate}
-use borrow.Author.Tests.{not_true, not_false}
+use borrow.Author.Tests.{not-true, not-false}
 use Rattle.trees.specs.declared.Rec.{Rec}
 use Rattle.records.specs.Slots.{slots, rec_at, recs}
 use Rattle.forms.specs.declared.Row.{Row}
@@ -43,12 +43,12 @@ module _ (t s below l : ℕ) (a : List ℕ) (r q : Rec) (w : Row) (b : Bool)
     stands = λ h. absurd (omega arith);
     pushed = λ h. absurd (omega arith);
     inside = λ h. absurd (omega arith);
-    refused = λ h base rs k. rw (← judged, not_true b e) (false_and _);
+    refused = λ h base rs k. rw (← judged, not-true b e) (false_and _);
   })
 
   pub take_short : not b ≡ false → l < below + r.count → Taken t s q below l a a 65537
   take_short e h =
-      let size : length (children r) ≡ r.count = length-children t s r (sym judged ∙ not_false b e) in
+      let size : length (children r) ≡ r.count = length-children t s r (sym judged ∙ not-false b e) in
       rw (← read) (record {
         stands = λ x. absurd (omega arith);
         pushed = λ x. absurd (omega arith);
@@ -60,7 +60,7 @@ module _ (t s below l : ℕ) (a : List ℕ) (r q : Rec) (w : Row) (b : Bool)
   pub take_all : (a' : List ℕ) (y : ℕ) → not b ≡ false → below + r.count ≤ l → l ≤ 65536 → Pushed a a' below y (sorts_of w r.count) → y ≡ below + r.count
       → Taken t s q below l a a' y
   take_all a' y e h m p k = rw (← read) (record {
-    stands = λ x. sym judged ∙ not_false b e;
+    stands = λ x. sym judged ∙ not-false b e;
     pushed = λ x. pushed_row a a' below y r w found p;
     inside = λ x. omega arith;
     refused = λ x. absurd (omega arith);
@@ -118,7 +118,7 @@ scan_end t base n list stack top i f inv e h l =
 
 -- where a record may stand, its single children are counted
 pub scan_enough : (t s : ℕ) (r : Rec) (w : Row) (b : Bool) → b ≡ stands t s w r → not b ≡ false → singles w ≤ r.count
-scan_enough t s r w b e f = enough t s w r (sym e ∙ not_false b f)
+scan_enough t s r w b e f = enough t s w r (sym e ∙ not-false b f)
 
 -- a stack of nothing but patterns
 pending_same : (s n m : ℕ) → n ≤ m → pending (replicate m s) n ≡ replicate n s

@@ -1,4 +1,6 @@
 // Whether a lent list of records is of its kind, and scans of such lists.
+#![tactic(auto)]
+
 pub mod depth;
 pub mod judge;
 pub mod scans;

@@ -1,4 +1,5 @@
 // The grounds on which opening is refused: definitions and theorems. The one type serves the code that opens.
+#![tactic(auto)]
 
 // How many, for each output that opening writes; or for how many it has room.
 #[derive(Drop)]

@@ -1,5 +1,7 @@
 // The entries for C. A slice is a pointer and a length. Of lengths and contents nothing is asked; what the caller owes is that an output
 // overlaps no other buffer of the call.
+#![tactic(auto)]
+
 ghost use Rattle.std.specs.Prelude.{◌≡◌, ℕ, ◌/◌, length};
 ghost use Rattle.records.specs.Slots.{slots};
 ghost use Rattle.records.specs.Result.{refusal_of};

@@ -2,6 +2,8 @@
 // Standard input holds lists: a byte that says what the list should be (0 one pattern, 1 patterns, 2 definitions, 3 Idents),
 // a byte that counts its records, and the records. Every kind of record stands in some list, and every list has one root.
 // The text has 64 bytes.
+#![tactic(auto)]
+
 ghost use Rattle.std.specs.Prelude.{◌+◌, ◌*◌, ◌≤◌, ◌<◌, length};
 ghost use Rattle.records.specs.Slots.{slots};
 

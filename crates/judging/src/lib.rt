@@ -1,4 +1,6 @@
 // Judging: the table of extractors, the stages of each, all of a definition list, and a pattern after it.
+#![tactic(auto)]
+
 pub mod calls;
 pub mod extractors;
 pub mod names;

@@ -1,4 +1,6 @@
 // Names of the text: two compared, and the first of a row of names that is the one sought.
+#![tactic(auto)]
+
 pub mod compare;
 pub mod lengths;
 pub mod order;

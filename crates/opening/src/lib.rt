@@ -1,4 +1,6 @@
 // Opening: the records of a source with each call replaced by its extractor's opened template.
+#![tactic(auto)]
+
 use grounds::Counts;
 
 pub mod ends;

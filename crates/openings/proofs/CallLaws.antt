@@ -7,7 +7,7 @@ use mathlib.Core.Bool.{Bool, true, false, not}
 use lib.ListN.{length, take, replicate}
 use mir.Syntax.{w32}
 use mir.Val.{Fits as FitsIn}
-use borrow.Author.Tests.{not_false}
+use borrow.Author.Tests.{not-false}
 use Rattle.trees.specs.declared.Rec.{Rec}
 use Rattle.trees.specs.Tree.{trees_of}
 use Rattle.records.specs.Slots.{slots, recs, writes}
@@ -106,7 +106,7 @@ module _ (n k : ℕ) (c : Outcome) (b b' : Outputs) (r : ℕ) (e : n ≡ k) wher
 -- by the lengths of the text and of the lists
 module _ (t d q n : ℕ) (is : n ≡ sizes t d q) (none : n ≡ 0) where
   pub first_shaped : (defs : List ℕ) (x : Bool) → d ≡ length defs → x ≡ is_many t definition (recs defs) → not x ≡ false → DefinitionsShaped defs
-  first_shaped defs x e i a = definitions_shaped t defs (sym i ∙ not_false x a) (omega (arith, (short t d q (sym none ∙ is)).0))
+  first_shaped defs x e i a = definitions_shaped t defs (sym i ∙ not-false x a) (omega (arith, (short t d q (sym none ∙ is)).0))
 
   pub second_shaped : (p : List ℕ) (y : Bool) → q ≡ length p → y ≡ is_one t pattern (recs p) → not y ≡ false → PatternShaped p
-  second_shaped p y e i a = pattern_shaped t p (sym i ∙ not_false y a) (omega (arith, (short t d q (sym none ∙ is)).1))
+  second_shaped p y e i a = pattern_shaped t p (sym i ∙ not-false y a) (omega (arith, (short t d q (sym none ∙ is)).1))

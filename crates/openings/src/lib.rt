@@ -1,4 +1,6 @@
 // Opening for lent lists: the checks 7, 1 and 3, the work, and what the store and the output then hold.
+#![tactic(auto)]
+
 ghost use Rattle.std.specs.Prelude.{◌≡◌, ◌≤◌, max, length};
 ghost use Rattle.trees.specs.Tree.{trees_of};
 ghost use Rattle.records.specs.Slots.{slots, recs};

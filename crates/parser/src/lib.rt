@@ -1,4 +1,6 @@
 // Definitions of the Rust's parser: parse_defs, parse_def and the functions for the covered forms.
+#![tactic(auto)]
+
 pub mod attrs;
 pub mod decls;
 pub mod rules;

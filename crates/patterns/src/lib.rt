@@ -1,5 +1,7 @@
 // parse_pattern of the Rust: a pattern's records from its tokens. The functions that read a pattern's parts call it again,
 // with one level of depth less.
+#![tactic(auto)]
+
 ghost use Rattle.std.specs.Prelude.{◌≡◌, ℕ, ◌+◌, ◌-◌, ◌/◌, ◌≤◌, ◌<◌};
 ghost use Rattle.trees.specs.Ast.{kind_pattern_bind, kind_pattern_and, kind_pattern_term};
 ghost use Rattle.tokens.specs.Input.{Input, input};

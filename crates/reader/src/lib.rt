@@ -1,6 +1,8 @@
 // The tokens through a reader that borrows their bytes, as the Rust's parser holds its lexer. The functions over it are thin, each
 // proved by a walk of its MIR by hand; below them `tokens::token_at` does the work, above them stand functions with plain
 // parameters, so that whoever calls those needs no walk.
+#![tactic(auto)]
+
 ghost use Rattle.std.specs.Prelude.{◌≡◌, ℕ, ◌+◌, ◌<◌, ◌^◌};
 ghost use Rattle.tokens.specs.Token.{token_at};
 

@@ -1,4 +1,6 @@
 // Reading a lent token list whole: the checks 7, 1 and 2, the parser, 6, and what the output then holds.
+#![tactic(auto)]
+
 ghost use Rattle.std.specs.Prelude.{◌≡◌, ℕ, ◌+◌, ◌/◌, ◌≤◌, ◌<◌, length};
 ghost use Rattle.records.specs.Slots.{slots};
 ghost use Rattle.tokens.specs.Token.{token_count};

@@ -2,7 +2,7 @@
 -- overwritten before the call, and stayed as many: n and m before; n', or the lengths of s and o, then. Assumes nothing.
 use Rattle.std.proofs.Common.{◌≡◌, ℕ, ◌≤◌, Bool, true, false, not, List, length, take, replicate, ap₂, length-take-le, eq-eqb, ne_eqb}
 use lib.ListN.{length-replicate}
-use borrow.Author.Tests.{not_true, not_false}
+use borrow.Author.Tests.{not-true, not-false}
 use Rattle.records.specs.Slots.{slots}
 use Rattle.tokens.specs.Input.{input}
 use Rattle.parser.specs.Reading.{reading}
@@ -83,11 +83,11 @@ module _ (text defs patt s o k l templates records : List ℕ) (n m r answer : �
 
   pub open_store : (t : Bool) → t ≡ held k templates → not t ≡ true → false ≡ agreed_both (opened text defs patt n m) answer templates records
   unfolding agreed_both
-  open_store t x f = rw (← said_open, ← x, not_true t f)
+  open_store t x f = rw (← said_open, ← x, not-true t f)
 
   pub open_compared : (t b : Bool) → t ≡ held k templates → not t ≡ false → b ≡ agreed (says r l) answer records → b ≡ agreed_both (opened text defs patt n m) answer templates records
   unfolding agreed_both
-  open_compared t b x f y = rw (← said_open, ← x, not_false t f) y
+  open_compared t b x f y = rw (← said_open, ← x, not-false t f) y
 
 pub open_first : (text defs patt : List ℕ) (n m : ℕ) (s o templates records : List ℕ) (answer : ℕ) (b : Bool) → n ≤ length s → m ≤ length o → b ≡ agreed_both (opened text defs patt (length (take n s)) (length (take m o))) answer templates records → b ≡ agreed_both (opened text defs patt n m) answer templates records
 open_first text defs patt n m s o templates records answer b h i e = rw (← length-take-le n s h, ← length-take-le m o i) e

@@ -1,6 +1,8 @@
 // Reads a token list from standard input and prints what the reader answers, in unsigned decimal.
 // The input: token count, text length and end position, 32 bits each, the most significant byte first; tokens; text.
 // What follows the text is ignored.
+#![tactic(auto)]
+
 ghost use Rattle.std.specs.Prelude.{◌≡◌, ◌≤◌, length};
 
 use reading::read;

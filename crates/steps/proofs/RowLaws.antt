@@ -5,7 +5,7 @@ use mathlib.Core.Path.{◌≡◌, refl, sym, ap, subst, ◌∙◌}
 use mathlib.Core.List.{List, [], ◌∷◌}
 use mathlib.Core.Bool.{Bool, true, false, not}
 use lib.ListN.{length}
-use borrow.Author.Tests.{not_true, not_false}
+use borrow.Author.Tests.{not-true, not-false}
 use Rattle.trees.specs.Choice.{choose}
 use Rattle.trees.specs.Tree.{Trees, ∅, ◌⧺◌, count, records_all}
 use Rattle.trees.proofs.Laws.{size_⧺}
@@ -102,7 +102,7 @@ going_start s stop f p l = record { onward = λ l₂ r h. h }
 row_turn : (s : Input) (stop : ℕ → Bool) (f : ℕ → ℕ → Outcome) (c d e : ℕ) (q q₂ r : Parsed) (l₁ l₂ l₃ : List ℕ) → BoundedAt 1 c d s f → Ready e s q → goes_on stop q ≡ true → ChainedAt f q l₁ l₂ q₂ → ChainedAt (many_at (size s) stop f) q₂ l₂ l₃ r → ChainedAt (many_at (size s) stop f) q l₁ l₃ r
 unfolding ChainedAt goes_on Ready
 row_turn s stop f c d e (Accepted i n k) q₂ r l₁ l₂ l₃ g a t h m =
-    rw (row_law stop f s c d g k i a.here, not_true (stop i) t)
+    rw (row_law stop f s c d g k i a.here, not-true (stop i) t)
     (chain_at (f k i) (many_at (size s) stop f) n k l₁ l₂ l₃ q₂ r m h)
 row_turn s stop f c d e (Refused x) q₂ r l₁ l₂ l₃ g a t h m = let z : ◌≡◌ {A = ℕ} 0 1 = cc in absurd (omega arith)
 
@@ -112,7 +112,7 @@ going_on s stop f p q q₂ l l₁ l₂ c d e x h w t v g a =
 
 row-end : (s : Input) (stop : ℕ → Bool) (f : ℕ → ℕ → Outcome) (q : Parsed) (l : List ℕ) → goes_on stop q ≡ false → ChainedAt (many_at (size s) stop f) q l l q
 unfolding ChainedAt goes_on many_at items_from
-row-end s stop f (Accepted i n k) l t = rw (not_false (stop i) t) (begun i n k l)
+row-end s stop f (Accepted i n k) l t = rw (not-false (stop i) t) (begun i n k l)
 row-end s stop f (Refused x) l t = refl
 
 pub going_end : (s : Input) (stop : ℕ → Bool) (f : ℕ → ℕ → Outcome) (p q : Parsed) (l l₁ : List ℕ) (x : Bool) → Going s stop f p l q l₁ → x ≡ goes_on stop q → x ≡ false → ChainedAt (many_at (size s) stop f) p l l₁ q

@@ -10,7 +10,7 @@ use mir.Syntax.{w64, w16}
 use mir.Val.{Fits}
 use types.Run.{OneOf}
 use denote.Enum.Declared.{tag_of}
-use borrow.Author.Tests.{eq-eqb, ne_eqb, eqb-true, not_true, not_false}
+use borrow.Author.Tests.{eq-eqb, ne_eqb, eqb-true, not-true, not-false}
 use Rattle.trees.specs.Choice.{pick, choose}
 use Rattle.trees.specs.Tree.{Trees, node, ∅, ◌▸◌, head, record_of, records_all}
 use Rattle.trees.specs.declared.Head.{Head}

@@ -1,5 +1,7 @@
 // The parser's state by value, and the steps that every parse function is made of: a token expected, a name read, a node closed.
 // Tokens are read and passed through `reader`, records are written through `tally`.
+#![tactic(auto)]
+
 ghost use Rattle.std.specs.Prelude.{◌≡◌, ℕ, ◌+◌, ◌-◌, ◌*◌, ◌/◌, ◌≤◌, ◌<◌, length, true};
 ghost use Rattle.trees.specs.Names.{spelled, Nonempty, without_first};
 ghost use Rattle.trees.specs.Tree.{head};

@@ -1,4 +1,6 @@
 // Pattern::make_macro_template and Pattern::subst_macro_args of ast.rs, as scans of record lists.
+#![tactic(auto)]
+
 pub mod making;
 pub mod scans;
 pub mod substituting;

@@ -6,7 +6,7 @@ use mathlib.Core.List.{List, [], ◌∷◌}
 use mathlib.Core.Bool.{Bool, true, false, not}
 use lib.ListN.{length, replicate}
 use lib.Dec.{ltb, eqb}
-use borrow.Author.Tests.{lt-ltb, le-ltb, eq-eqb, ne_eqb, ltb-false, ltb-true, not_true, not_false}
+use borrow.Author.Tests.{lt-ltb, le-ltb, eq-eqb, ne_eqb, ltb-false, ltb-true, not-true, not-false}
 use Rattle.trees.specs.Choice.{pick}
 use Rattle.trees.specs.declared.Rec.{Rec}
 use Rattle.records.specs.Slots.{slots, recs}
@@ -69,15 +69,15 @@ module _ {A : Type 0} (stop : ℕ → A) (n k : ℕ) (c : A) (e : n ≡ k) where
 
   pub lent-first : (a b x : Bool) → n ≡ 0 → x ≡ a → not x ≡ true → lent stop k a b c ≡ stop 3
   unfolding lent
-  lent-first a b x h f g = rw (← e, eq-eqb n 0 h, ← f, not_true x g)
+  lent-first a b x h f g = rw (← e, eq-eqb n 0 h, ← f, not-true x g)
 
   pub lent-second : (a b x z : Bool) → n ≡ 0 → x ≡ a → not x ≡ false → z ≡ b → not z ≡ true → lent stop k a b c ≡ stop 3
   unfolding lent
-  lent-second a b x z h f g i j = rw (← e, eq-eqb n 0 h, ← f, not_false x g, ← i, not_true z j)
+  lent-second a b x z h f g i j = rw (← e, eq-eqb n 0 h, ← f, not-false x g, ← i, not-true z j)
 
   pub lent_right : (a b x z : Bool) → n ≡ 0 → x ≡ a → not x ≡ false → z ≡ b → not z ≡ false → lent stop k a b c ≡ c
   unfolding lent
-  lent_right a b x z h f g i j = rw (← e, eq-eqb n 0 h, ← f, not_false x g, ← i, not_false z j)
+  lent_right a b x z h f g i j = rw (← e, eq-eqb n 0 h, ← f, not-false x g, ← i, not-false z j)
 
 module _ (n k : ℕ) (c : Call) (l' : List ℕ) (size r : ℕ) (e : n ≡ k) where
   pub wrong_size : (a b : Bool) → (n ≡ 0 → ⊥) → Ended (stopped n) size l' r → Ended (lent stopped k a b c) size l' r
@@ -106,9 +106,9 @@ finished wanted complete a b c r x p q e = record { returns = finished-number wa
 
 module _ (text : ℕ) (l m : List ℕ) (n : ℕ) (s : n ≡ sizes text (length l) (length m)) (z : n ≡ 0) where
   pub ready_to_make : (x y : Bool) → x ≡ is_one text pattern (recs l) → not x ≡ false → y ≡ is_many text name (recs m) → not y ≡ false → MakeReady l m
-  ready_to_make x y i a j b = let w = short text (length l) (length m) (sym z ∙ s) in record { few = w.0; placed = fits-placed (recs l) text 0 (pattern ∷ []) (sym i ∙ not_false x a); idents = record { leaves = fits-names (recs m) text (sym j ∙ not_false y b) } }
+  ready_to_make x y i a j b = let w = short text (length l) (length m) (sym z ∙ s) in record { few = w.0; placed = fits-placed (recs l) text 0 (pattern ∷ []) (sym i ∙ not-false x a); idents = record { leaves = fits-names (recs m) text (sym j ∙ not-false y b) } }
 
   pub ready_to_substitute : (x y : Bool) → x ≡ is_one text pattern (recs l) → not x ≡ false → y ≡ is_many text pattern (recs m) → not y ≡ false → SubstituteReady l m
   ready_to_substitute x y i a j b =
       let w = short text (length l) (length m) (sym z ∙ s) in
-      record { few = w.0; few_patterns = w.1; placed = fits-placed (recs l) text 0 (pattern ∷ []) (sym i ∙ not_false x a); args = fits-args (recs l) text 0 (pattern ∷ []) (sym i ∙ not_false x a); patterns_placed = fits-placed (recs m) text pattern [] (sym j ∙ not_false y b) }
+      record { few = w.0; few_patterns = w.1; placed = fits-placed (recs l) text 0 (pattern ∷ []) (sym i ∙ not-false x a); args = fits-args (recs l) text 0 (pattern ∷ []) (sym i ∙ not-false x a); patterns_placed = fits-placed (recs m) text pattern [] (sym j ∙ not-false y b) }

@@ -1,4 +1,6 @@
 // Making a template and substituting for lent lists: the checks 7, 1 and 3, the work, and what the output then holds.
+#![tactic(auto)]
+
 ghost use Rattle.std.specs.Prelude.{◌≡◌, ℕ, length};
 ghost use Rattle.records.specs.Slots.{recs};
 ghost use Rattle.templates.specs.Answers.{MakeReady, SubstituteReady, space, template_answer, template_records, substitute_answer, substituted_records};

@@ -1,4 +1,6 @@
 // Reading a text: the lexer's tokens are read as lent ones are, and what stops the lexer is given its number.
+#![tactic(auto)]
+
 ghost use Rattle.std.specs.Prelude.{◌≡◌, ◌*◌, ◌≤◌, ◌<◌, length};
 ghost use Rattle.records.specs.Slots.{slots};
 ghost use Rattle.tokens.specs.Token.{token_count, token_at};

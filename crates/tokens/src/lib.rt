@@ -1,4 +1,6 @@
 // Token records: one read by value, its tests, the judgement of a whole lent list; identifiers.
+#![tactic(auto)]
+
 pub mod lent;
 pub mod names;
 

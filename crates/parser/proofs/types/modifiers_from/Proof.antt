@@ -1,6 +1,6 @@
 use borrow.Author.Rules.{rules}
 use Prim.Native.Nat.{◌≤◌, ◌+◌, ◌-◌}
-use borrow.Author.Tests.{not_true, not_false}
+use borrow.Author.Tests.{not-true, not-false}
 use Rattle.tokens.specs.Input.{input}
 use Rattle.tokens.specs.Token.{token_count}
 use Rattle.parser.proofs.ModifierLaws.{Passing, passing_start, passing_on, passing_stop, passing_end}
@@ -23,7 +23,7 @@ add-t12 : tie.Need-overflow-add-t12 invariant-loop decreases-loop
 add-t12 c = search rules
 
 returns : tie.Need-returns invariant-loop decreases-loop
-returns c = passing_stop _ _ _ _ _ _ _ _ c.before.before.before.before.before.before.before.requires c.before.before.before.before.loop.invariant c.before.before.before.loop-test.true c.before.before.modifier.ensures (not_true _ c.if1.true)
+returns c = passing_stop _ _ _ _ _ _ _ _ c.before.before.before.before.before.before.before.requires c.before.before.before.before.loop.invariant c.before.before.before.loop-test.true c.before.before.modifier.ensures (not-true _ c.if1.true)
 
 after-requires : tie.Need-after-requires invariant-loop decreases-loop
 after-requires c κs = search rules
@@ -32,7 +32,7 @@ loop-less : tie.Need-loop-smaller invariant-loop decreases-loop
 loop-less c = search rules
 
 loop-again : tie.Need-loop-preserved invariant-loop decreases-loop
-loop-again c = passing_on _ _ _ _ _ _ _ _ c.before.before.before.before.before.loop.invariant c.before.before.before.before.loop-test.true c.before.before.before.modifier.ensures (not_false _ c.before.if1.false) _ c.after.ensures
+loop-again c = passing_on _ _ _ _ _ _ _ _ c.before.before.before.before.before.loop.invariant c.before.before.before.before.loop-test.true c.before.before.before.modifier.ensures (not-false _ c.before.if1.false) _ c.after.ensures
 
 add-t13 : tie.Need-overflow-add-t13 invariant-loop decreases-loop
 add-t13 c = search rules

@@ -1,0 +1,7 @@
+use Rattle.records.specs.Slots.{rec_at}
+use borrow.Author.Rules.{rules}
+use Rattle.records.proofs.rec_at.Goals as goal
+
+pub returns : goal.returns
+unfolding rec_at
+returns c = cc

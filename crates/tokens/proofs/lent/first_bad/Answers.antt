@@ -1,0 +1,20 @@
+use borrow.Author.Rules.{rules}
+use borrow.Author.Tests.{not-true, not-false}
+use mathlib.Core.Path.{◌≡◌}
+use Prim.Native.Nat.{◌-◌}
+use Rattle.tokens.specs.Token.{token_count}
+use Rattle.tokens.specs.Lent.{first_bad, bad_from}
+use Rattle.tokens.proofs.LentLaws.{bad-start, bad-on, bad-found, bad-none}
+use Rattle.tokens.proofs.lent.first_bad.Goals as goal
+
+pub loop-i-init : goal.loop-i-init
+loop-i-init c = search bad-start
+
+pub returns-then-not-is_good : goal.returns-then-not-is_good
+returns-then-not-is_good c = search (bad-found, not-true)
+
+pub loop-i-preserved : goal.loop-i-preserved
+loop-i-preserved c = search (bad-on, not-false)
+
+pub returns : goal.returns
+returns c = search bad-none

@@ -1,0 +1,13 @@
+use borrow.Author.Rules.{rules}
+use mathlib.Core.Path.{◌≡◌, refl}
+use Prim.Native.Nat.{◌-◌}
+use lib.ListN.{length, drop}
+use Rattle.tokens.specs.Lent.{ascii}
+use Rattle.tokens.proofs.LentLaws.{ascii_from, ascii-start, ascii-on, ascii-end}
+use Rattle.tokens.proofs.lent.is_ascii.Given as goal
+
+abbrev pub invariant-loop-i : goal.invariant-loop-i
+invariant-loop-i l = ascii l.s ≡ ascii_from l.highest (drop l.i l.s)
+
+abbrev pub decreases-loop-i : goal.decreases-loop-i
+decreases-loop-i l = length l.s - l.i

@@ -1,0 +1,6 @@
+use Rattle.tokens.proofs.NameLaws.{begins-is}
+use borrow.Author.Rules.{rules}
+use Rattle.tokens.proofs.names.begins.Goals as goal
+
+pub returns : goal.returns
+returns c = search begins-is

@@ -1,0 +1,6 @@
+use Rattle.tokens.proofs.NameLaws.{spelled_is}
+use borrow.Author.Rules.{rules}
+use Rattle.tokens.proofs.names.spelling.Goals as goal
+
+pub returns : goal.returns
+returns c = search spelled_is

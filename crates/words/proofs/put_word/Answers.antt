@@ -1,0 +1,6 @@
+use Rattle.words.proofs.Laws.{two-halves}
+use borrow.Author.Rules.{rules}
+use Rattle.words.proofs.put_word.Goals as goal
+
+pub returns : goal.returns
+returns c = search two-halves

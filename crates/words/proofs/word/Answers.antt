@@ -1,0 +1,7 @@
+use Rattle.words.specs.Words.{word_at}
+use borrow.Author.Rules.{rules}
+use Rattle.words.proofs.word.Goals as goal
+
+pub returns : goal.returns
+unfolding word_at
+returns c = search rules
