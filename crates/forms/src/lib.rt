@@ -7,7 +7,7 @@ pub mod scans;
 pub mod table;
 
 // What a kind's records look like: the columns of the table of kinds.
-#[derive(Drop)]
+#[derive(Clone, Copy)]
 pub struct Row {
     pub sort: u8,
     pub flags: u8,

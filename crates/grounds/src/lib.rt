@@ -2,7 +2,7 @@
 #![tactic(auto)]
 
 // How many, for each output that opening writes; or for how many it has room.
-#[derive(Drop)]
+#[derive(Clone, Copy)]
 pub struct Counts {
     pub store: usize,
     pub output: usize,

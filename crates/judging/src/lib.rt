@@ -8,7 +8,7 @@ pub mod table;
 pub mod whole;
 
 // Nothing is wrong up to an index, or as many extractors are fine; or document 01's number of a refusal and its place.
-#[derive(Drop)]
+#[derive(Clone, Copy)]
 pub enum Judged {
     Fine(usize),
     Flawed(u8, usize),

@@ -17,7 +17,7 @@ use forms::scans::first_macro_arg;
 use records::slots;
 
 // What is found in the definitions, whatever the pattern: 4; 8; and 33 or the first of the extractors' stages, or their number.
-#[derive(Drop)]
+#[derive(Clone, Copy)]
 pub struct Findings {
     pub args: Judged,
     pub deep: Judged,

@@ -10,7 +10,7 @@ pub mod walk;
 pub mod whole;
 
 // How many records each output got; or document 01's number of a refusal and its place.
-#[derive(Drop)]
+#[derive(Clone, Copy)]
 pub enum Answer {
     Accepted(Counts),
     Refused(u8, usize),

@@ -12,7 +12,7 @@ use records::rec_at;
 use trees::{Head, Rec};
 
 // A record that is written, and the index of the source at which to go on.
-#[derive(Drop)]
+#[derive(Clone, Copy)]
 pub struct Made {
     pub rec: Rec,
     pub next: usize,

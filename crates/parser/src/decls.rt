@@ -16,7 +16,7 @@ use steps::{
 };
 use trees::Head;
 
-#[derive(Drop)]
+#[derive(Clone, Copy)]
 struct Eaten {
     flags: u8,
     next: usize,
@@ -43,7 +43,7 @@ fn decl_modifiers(tokens: &[u8], text: &[u8], end: u32, at: usize) -> Eaten
 }
 
 // The modifiers at p: their flags, and the state of the declaration's children after them.
-#[derive(Drop)]
+#[derive(Clone, Copy)]
 struct Modified {
     flags: u8,
     state: Parsed,

@@ -222,14 +222,14 @@ fn parse_typevalue(tokens: &[u8], text: &[u8], end: u32, out: &mut [u8], p: Pars
 }
 
 // What the modifiers after a type's name are: their flags and the index after them.
-#[derive(Drop)]
+#[derive(Clone, Copy)]
 struct Modifiers {
     flags: u8,
     next: usize,
 }
 
 // One more modifier, if there is one, and what `extern` and `nodebug` then are.
-#[derive(Drop)]
+#[derive(Clone, Copy)]
 struct Turn {
     more: bool,
     e: u8,

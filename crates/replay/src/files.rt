@@ -4,7 +4,7 @@ use crate::tally::{Step, Tally, write};
 use crate::{open_cases, output_cases};
 
 // What a file holds cases of: an entry with one output, or opening.
-#[derive(Drop)]
+#[derive(Clone, Copy)]
 enum Kind {
     Output(Entry),
     Open,

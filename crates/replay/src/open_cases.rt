@@ -14,7 +14,7 @@ use openings::open;
 use words::word;
 
 // Sizes in bytes: of the lists, of the store and the output that are lent, and of what the case says that they hold.
-#[derive(Drop)]
+#[derive(Clone, Copy)]
 struct Opening {
     text: usize,
     defs: usize,

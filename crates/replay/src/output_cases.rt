@@ -19,7 +19,7 @@ use texts::read_text;
 use tokens::Token;
 use words::word;
 
-#[derive(Drop)]
+#[derive(Clone, Copy)]
 pub enum Entry {
     Read,
     Text,
@@ -28,7 +28,7 @@ pub enum Entry {
 }
 
 // Sizes in bytes; and the end position, which reading alone has.
-#[derive(Drop)]
+#[derive(Clone, Copy)]
 struct Case {
     entry: Entry,
     text: usize,

@@ -4,7 +4,7 @@ ghost use Rattle.replay.specs.Counted.{after};
 
 use std::num::wrapping_add_u64;
 
-#[derive(Drop)]
+#[derive(Clone, Copy)]
 pub struct Tally {
     pub cases: u64,
     pub calls: u64,
@@ -56,7 +56,7 @@ fn number_of_first(first: u64, cases: u64) -> u64 {
 }
 
 // What a step leaves: the tally, and whether there may be another case.
-#[derive(Drop)]
+#[derive(Clone, Copy)]
 pub struct Step {
     pub tally: Tally,
     pub more: bool,

@@ -18,7 +18,7 @@ use tokens::{Token, kind_at, pos_at};
 use trees::{Head, Rec};
 
 // Where reading stopped, and why: document 01's number and place, and how many tokens were consumed.
-#[derive(Drop)]
+#[derive(Clone, Copy)]
 pub struct Refusal {
     pub code: u8,
     pub place: u32,
@@ -26,7 +26,7 @@ pub struct Refusal {
 }
 
 // The parser's state: the index of the next token, the slot of the next record and how many trees were read in this row; or a refusal.
-#[derive(Drop)]
+#[derive(Clone, Copy)]
 pub enum Parsed {
     Accepted {
         next: usize,
@@ -271,7 +271,7 @@ fn const_refusal(s: &[u8]) -> u8
 }
 
 // The name of a constant without its `$`, or why there is none.
-#[derive(Drop)]
+#[derive(Clone, Copy)]
 enum Cut {
     Name(u64),
     NoName(u8),

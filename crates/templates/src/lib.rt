@@ -13,7 +13,7 @@ use words::{clear, clear_from};
 
 // What making a template or substituting comes to: the count of records written; or the first record that is refused, a MacroArg where none
 // may stand or one with no pattern at its index; or that the complete list is longer than the space.
-#[derive(Drop)]
+#[derive(Clone, Copy)]
 pub enum Answer {
     Accepted { count: u32 },
     MacroArg { at: u32 },

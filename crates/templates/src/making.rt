@@ -14,14 +14,14 @@ use trees::{Head, Rec};
 use words::same;
 
 // The index of a parameter, or none.
-#[derive(Drop)]
+#[derive(Clone, Copy)]
 pub enum Found {
     At(usize),
     Nothing,
 }
 
 // How many records there are after one was appended, or room + 1; and the slot where the scan goes on.
-#[derive(Drop)]
+#[derive(Clone, Copy)]
 pub struct Appended {
     pub written: usize,
     pub next: usize,

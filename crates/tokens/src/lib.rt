@@ -11,7 +11,7 @@ use names::{first_byte, spelling};
 use words::{same, word};
 
 // A token by value, as the Rust's lookahead. Past the last token the kind is NONE and the position that of the end.
-#[derive(Drop)]
+#[derive(Clone, Copy)]
 pub struct Token {
     pub kind: u8,
     pub pos: u32,
