@@ -1,5 +1,5 @@
 -- How far an expression reads, and its depth in the words of the code. Assumes nothing.
-use Prim.Native.Nat.{ℕ, zero, suc, ◌+◌, ◌-◌}
+use Prim.Native.Nat.{ℕ, zero, suc, ◌-◌}
 use native.Mathlib.Omega.{arith}
 use mathlib.Core.Path.{◌≡◌, refl}
 use mathlib.Core.List.{List}
@@ -8,7 +8,7 @@ use Rattle.tokens.specs.Token.{is_lparen, is_rparen, is_symbol, is_int, is_const
 use Rattle.tokens.specs.Input.{Input, peek}
 use Rattle.steps.specs.declared.Parsed.{Parsed}
 use Rattle.steps.specs.Keywords.{word-true, word-false, word_let}
-use Rattle.steps.specs.Outcome.{Reader, ◌⊳◌, parent, leaf, plain, refuse_at, if_next, if_second, row, expect-lparen, expect-rparen, expect-word, parse_ident, parse_const}
+use Rattle.steps.specs.Outcome.{Reader, ◌⊳◌, parent, leaf, plain, refuse_at, if_next, row, expect-lparen, expect-rparen, expect-word, parse_ident, parse_const}
 use Rattle.steps.specs.Met.{Chained}
 use Rattle.steps.proofs.SizeLaws.{Bounded, Steady, Item, steady, item, then_bounded, parent-bounded, next-bounded, second-bounded, leaf-bounded, refuse-bounded, int_kinded, word_kinded, lparen-bounded, rparen-bounded, word-bounded, ident-bounded, const_bounded}
 use Rattle.steps.proofs.RowLaws.{row_steady}

@@ -1,8 +1,8 @@
 -- How far the if-lets of a rule read, and the test for one more. Assumes nothing.
 use Prim.Native.Nat.{ℕ, ◌+◌}
 use native.Mathlib.Omega.{arith}
-use mathlib.Core.Path.{◌≡◌, refl, sym, ◌∙◌}
-use mathlib.Core.List.{List, []}
+use mathlib.Core.Path.{◌≡◌, refl}
+use mathlib.Core.List.{List}
 use mathlib.Core.Bool.{Bool, true, false, not}
 use Rattle.trees.specs.Choice.{pick}
 use Rattle.trees.specs.Ast.{kind_if_let, kind_pattern_wildcard}
@@ -12,7 +12,7 @@ use Rattle.tokens.specs.Input.{Input, input, size}
 use Rattle.steps.specs.declared.Parsed.{Parsed}
 use Rattle.steps.specs.declared.Parsed.TheVariants.{Accepted, Refused}
 use Rattle.steps.specs.Keywords.{word_if, word_if_let}
-use Rattle.steps.specs.Outcome.{Reader, ◌⊳◌, parent, nothing, if_next, if_second, many, expect-lparen, expect-rparen, expect-word}
+use Rattle.steps.specs.Outcome.{Reader, ◌⊳◌, parent, nothing, if_second, many, expect-lparen, expect-rparen, expect-word}
 use Rattle.steps.specs.Met.{token_for, second_for, goes_on}
 use Rattle.steps.proofs.SizeLaws.{Bounded, Steady, Item, steady, item, less_bounded, then_bounded, parent-bounded, next-bounded, second-bounded, nothing-bounded, lparen-bounded, rparen-bounded, word-bounded}
 use Rattle.steps.proofs.RowLaws.{row_steady}

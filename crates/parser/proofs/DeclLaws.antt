@@ -1,13 +1,11 @@
 -- How far declarations, externs, extractors and converters read; a declaration's modifiers. Assumes nothing.
-use Prim.Native.Nat.{ℕ, zero, suc, ◌+◌, ◌-◌, ◌*◌, ◌<◌, ◌≤◌}
+use Prim.Native.Nat.{ℕ, ◌+◌, ◌-◌, ◌*◌, ◌<◌, ◌≤◌}
 use native.Mathlib.Omega.{arith}
-use mathlib.Core.Path.{◌≡◌, refl, sym, ap, ◌∙◌}
+use mathlib.Core.Path.{◌≡◌, refl}
 use mathlib.Core.List.{List, [], ◌∷◌}
 use mathlib.Core.Bool.{Bool, true, false}
 use types.Run.{OneOf}
 use denote.Enum.Declared.{tag_of}
-use mir.Syntax.{w64}
-use mir.Val.{Fits}
 use Rattle.trees.specs.Choice.{pick}
 use Rattle.trees.specs.Tree.{∅}
 use Rattle.trees.proofs.Laws.{size_none}
@@ -18,7 +16,7 @@ use Rattle.steps.specs.declared.Parsed.{Parsed}
 use Rattle.steps.specs.declared.Parsed.TheVariants.{Accepted, Refused}
 use Rattle.steps.specs.contracts.Parsed.{the_type}
 use Rattle.steps.specs.Keywords.{word_pure, word_multi, word_partial, word-rec, word_constructor, word-extractor, word_infallible, word_const}
-use Rattle.steps.specs.Outcome.{Reader, accept, ◌⊳◌, parent, flagged, refuse_at, if_next, row, expect-lparen, expect-rparen, expect-word, ate, eat, parse_ident, parse_const}
+use Rattle.steps.specs.Outcome.{Reader, ◌⊳◌, parent, flagged, refuse_at, if_next, row, expect-lparen, expect-rparen, expect-word, ate, eat, parse_ident, parse_const}
 use Rattle.steps.specs.Met.{Chained, moved, moved_to, inside, Ready, Flags}
 use Rattle.steps.proofs.StepLaws.{ready_at}
 use Rattle.steps.proofs.MetLaws.{begun}

@@ -1,8 +1,8 @@
 -- How far attributes and whole definitions read, and definitions by their word. Assumes nothing.
-use Prim.Native.Nat.{ℕ, zero, suc, ◌+◌, ◌-◌, ◌/◌, ◌<◌, ◌≤◌}
+use Prim.Native.Nat.{ℕ, ◌-◌, ◌/◌}
 use native.Mathlib.Omega.{arith}
-use mathlib.Core.Path.{◌≡◌, refl, sym, ap, ◌∙◌}
-use mathlib.Core.List.{List, [], ◌∷◌}
+use mathlib.Core.Path.{◌≡◌, refl}
+use mathlib.Core.List.{List}
 use mathlib.Core.Bool.{Bool, true, false, not}
 use lib.ListN.{length}
 use lib.Dec.{leb, ltb}
@@ -15,7 +15,7 @@ use Rattle.steps.specs.declared.Refusal.{Refusal}
 use Rattle.steps.specs.declared.Parsed.{Parsed}
 use Rattle.steps.specs.declared.Parsed.TheVariants.{Accepted, Refused}
 use Rattle.steps.specs.Keywords.{word_pragma, word_type, word_decl, word_attr, word-rule, word-extractor, word_extern, word_convert, word_spec, word_macro, word_state, word_model, word_form, word_instantiate, word_veri, word_tag, word_chain, word-priority}
-use Rattle.steps.specs.Outcome.{Reader, ◌⊳◌, flagged, bare, refuse_after, if_next, if_second, many, row, expect_at, expect-lparen, expect-rparen, expect-word, ate, eat, parse_ident}
+use Rattle.steps.specs.Outcome.{Reader, ◌⊳◌, bare, refuse_after, if_next, if_second, row, expect-lparen, expect-rparen, expect-word, ate, eat, parse_ident}
 use Rattle.steps.specs.Met.{Chained, moved, second_for, goes_on}
 use Rattle.steps.proofs.MetLaws.{chain, token, refusing_after, second_yes, second_no}
 use Rattle.steps.proofs.SizeLaws.{Bounded, Steady, Item, steady, item, less_bounded, then_bounded, bare-bounded, flagged-bounded, next-bounded, second-bounded, after-bounded, eat_steady, lparen-bounded, rparen-bounded, word-bounded, ident-bounded, pragma_bounded}

@@ -1,33 +1,27 @@
 -- A type's modifiers: how far they reach, and one law for each way through the code. Assumes nothing.
-use Prim.Native.Nat.{ℕ, zero, suc, ◌+◌, ◌-◌, ◌*◌, ◌<◌, ◌≤◌}
+use Prim.Native.Nat.{ℕ, zero, suc, ◌+◌, ◌<◌, ◌≤◌}
 use native.Mathlib.Omega.{arith}
-use mathlib.Core.Path.{◌≡◌, refl, sym, ap, subst, ◌∙◌}
+use mathlib.Core.Path.{◌≡◌, refl, sym, ap, ◌∙◌}
 use mathlib.Core.List.{List, [], ◌∷◌}
 use mathlib.Core.Bool.{Bool, true, false}
-use lib.ListN.{length}
-use lib.Dec.{eqb}
-use mir.Syntax.{w64}
-use mir.Val.{Fits}
 use types.Run.{OneOf}
 use denote.Enum.Declared.{tag_of}
-use Rattle.trees.specs.Choice.{pick, choose}
-use Rattle.trees.specs.Tree.{Trees, ∅}
-use Rattle.trees.specs.Names.{spelled}
+use Rattle.trees.specs.Choice.{choose}
+use Rattle.trees.specs.Tree.{∅}
 use Rattle.trees.proofs.Laws.{size_none}
 use Rattle.tokens.specs.declared.Token.{Token}
-use Rattle.tokens.specs.Token.{token_count, token_at, past_last, is_symbol, is_word}
-use Rattle.tokens.specs.Ident.{ident_refusal}
+use Rattle.tokens.specs.Token.{token_count, token_at, is_symbol, is_word}
 use Rattle.tokens.specs.Input.{Input, input, peek, pos_at, size}
 use Rattle.steps.specs.declared.Refusal.{Refusal}
 use Rattle.steps.specs.declared.Parsed.{Parsed}
 use Rattle.steps.specs.declared.Parsed.TheVariants.{Accepted, Refused}
 use Rattle.steps.specs.contracts.Parsed.{the_type}
 use Rattle.steps.specs.Keywords.{word_extern, word_nodebug}
-use Rattle.steps.specs.Outcome.{Outcome, accept, refuse, Reader, refusal, unexpected, ident_at, name_by, parse_ident}
-use Rattle.steps.specs.Met.{Taken, Met, Chained, inside, At, Ready, Flags}
+use Rattle.steps.specs.Outcome.{accept, refuse, refusal, parse_ident}
+use Rattle.steps.specs.Met.{Met, Chained, inside, Ready, Flags}
 use Rattle.steps.proofs.StepLaws.{ready_at}
 use Rattle.steps.proofs.MetLaws.{begun, ident-next}
-use Rattle.steps.proofs.SizeLaws.{Fit, Sized, Steady, sized-accept, sized-refuse, sized-choose, met_there, word_kinded}
+use Rattle.steps.proofs.SizeLaws.{Steady, sized-accept, sized-refuse, sized-choose, met_there, word_kinded}
 use Rattle.parser.specs.Types.{modifier_flags, modifiers_end, parse_modifiers}
 use Rattle.parser.specs.Modified.{Turned, ModifiedFrom, ModifiedAt, passed}
 

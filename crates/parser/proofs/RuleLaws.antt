@@ -1,19 +1,18 @@
 -- Rules: their name, their priority, their flags, and how far they read. Assumes nothing.
-use Prim.Native.Nat.{ℕ, zero, suc, ◌+◌, ◌-◌, ◌*◌, ◌<◌, ◌≤◌}
+use Prim.Native.Nat.{ℕ, ◌+◌, ◌<◌, ◌≤◌}
 use native.Mathlib.Omega.{arith}
 use native.Mathlib.Nat.{add-zero}
-use mathlib.Core.Path.{◌≡◌, refl, sym, ap, subst, ◌∙◌}
+use mathlib.Core.Path.{◌≡◌, refl, sym, ap, ◌∙◌}
 use mathlib.Core.List.{List, [], ◌∷◌}
 use mathlib.Core.Bool.{Bool, true, false}
-use lib.ListN.{length}
-use lib.Dec.{ltb, eqb}
+use lib.Dec.{eqb}
 use types.Run.{OneOf}
 use denote.Enum.Declared.{tag_of}
 use borrow.Author.Tests.{lt-ltb, le-ltb}
-use Rattle.trees.specs.Choice.{pick, choose}
+use Rattle.trees.specs.Choice.{pick}
 use Rattle.trees.specs.Tree.{node, ∅, ◌▸◌, head}
 use Rattle.trees.specs.declared.Head.{Head}
-use Rattle.trees.specs.Ast.{kind_rule, kind_priority, flag}
+use Rattle.trees.specs.Ast.{kind_rule, kind_priority}
 use Rattle.trees.proofs.Laws.{size_none, size-one, size-node}
 use Rattle.tokens.specs.declared.Token.{Token}
 use Rattle.tokens.specs.Token.{token_at, is_symbol, is_int, is_refused}
@@ -22,10 +21,10 @@ use Rattle.steps.specs.declared.Refusal.{Refusal}
 use Rattle.steps.specs.declared.Parsed.{Parsed}
 use Rattle.steps.specs.declared.Parsed.TheVariants.{Accepted, Refused}
 use Rattle.steps.specs.contracts.Parsed.{the_type}
-use Rattle.steps.specs.Outcome.{Outcome, Reader, accept, refuse, refusal, ◌⊳◌, flagged, nothing, refuse_after, if_next, if_second, many, name_by, refused_as}
+use Rattle.steps.specs.Outcome.{accept, refuse, refusal, ◌⊳◌, nothing, refuse_after, if_second, many, name_by, refused_as}
 use Rattle.steps.specs.Met.{Met, Chained, Closed, Leafed, inside, token_for, second_for, moved, Flags}
-use Rattle.steps.proofs.MetLaws.{begun, leaf_met, agree, next_yes, second_yes, second_no, refusing_after, flagged-read}
-use Rattle.steps.proofs.SizeLaws.{Bounded, Sized, Steady, steady, sized-accept, sized-refuse, sized-choose, less_bounded, then_bounded, flagged-bounded, next-bounded, second-bounded, after-bounded, nothing-bounded, other-bounded, met_there, int_kinded}
+use Rattle.steps.proofs.MetLaws.{begun, leaf_met, next_yes, second_yes, second_no, refusing_after, flagged-read}
+use Rattle.steps.proofs.SizeLaws.{Bounded, Sized, Steady, steady, sized-accept, sized-refuse, sized-choose, then_bounded, flagged-bounded, next-bounded, second-bounded, after-bounded, nothing-bounded, other-bounded, met_there, int_kinded}
 use Rattle.patterns.specs.Pattern.{parse_pattern}
 use Rattle.patterns.proofs.PatternLaws.{pattern-bounded}
 use Rattle.exprs.specs.Expr.{parse_iflet_or_expr, no_iflet}

@@ -1,12 +1,11 @@
 -- How far types read, and rows whose items know their place. Assumes nothing.
-use Prim.Native.Nat.{ℕ, zero, suc, ◌+◌, ◌<◌, ◌≤◌}
+use Prim.Native.Nat.{ℕ, ◌+◌, ◌≤◌}
 use native.Mathlib.Omega.{arith}
-use mathlib.Core.Path.{◌≡◌, refl, sym, ap, subst, ◌∙◌}
+use mathlib.Core.Path.{◌≡◌, refl}
 use mathlib.Core.List.{List, [], ◌∷◌}
 use types.Run.{OneOf}
 use denote.Enum.Declared.{tag_of}
 use Rattle.trees.specs.Tree.{head}
-use Rattle.trees.specs.declared.Head.{Head}
 use Rattle.trees.specs.Ast.{kind_type_def, kind_type_value_primitive, kind_type_value_enum, kind_type_value_struct, kind_variant, kind_fields_unit, kind_fields_struct, kind_fields_tuple, kind_struct_field, kind_tuple_field}
 use Rattle.tokens.specs.declared.Token.{Token}
 use Rattle.tokens.specs.Token.{token_at, is_lparen, is_rparen, is_symbol, is_word}
@@ -15,10 +14,10 @@ use Rattle.steps.specs.declared.Parsed.{Parsed}
 use Rattle.steps.specs.declared.Parsed.TheVariants.{Accepted, Refused}
 use Rattle.steps.specs.contracts.Parsed.{the_type}
 use Rattle.steps.specs.Keywords.{word_primitive, word_enum, word_struct}
-use Rattle.steps.specs.Outcome.{Reader, ◌⊳◌, node_of, parent, flagged, bare, nothing, refuse_after, if_next, if_second, many_at, row, expect-lparen, expect-rparen, expect-word, parse_ident}
+use Rattle.steps.specs.Outcome.{Reader, ◌⊳◌, parent, bare, nothing, refuse_after, if_next, if_second, many_at, row, expect-lparen, expect-rparen, expect-word, parse_ident}
 use Rattle.steps.specs.Met.{Met, Chained, ChainedAt, Closed, inside, token_for, Ready, Small}
 use Rattle.steps.proofs.MetLaws.{closed_met}
-use Rattle.steps.proofs.SizeLaws.{Bounded, BoundedAt, Steady, Item, steady, item, sized-node, sized_less, less_bounded, then_bounded, parent-bounded, flagged-bounded, bare-bounded, next-bounded, second-bounded, nothing-bounded, after-bounded, lparen-bounded, rparen-bounded, word-bounded, ident-bounded}
+use Rattle.steps.proofs.SizeLaws.{Bounded, BoundedAt, Steady, Item, steady, item, sized-node, sized_less, then_bounded, parent-bounded, flagged-bounded, bare-bounded, next-bounded, second-bounded, nothing-bounded, after-bounded, lparen-bounded, rparen-bounded, word-bounded, ident-bounded}
 use Rattle.steps.proofs.RowLaws.{row_steady, row-bounded}
 use Rattle.parser.specs.Types.{parse_struct_field, parse_struct_fields, parse_tuple_field, parse_tuple_fields, parse_fields, parse_type_variant, parse_typevalue, modifier_flags, parse_modifiers, parse_type}
 use Rattle.parser.proofs.ModifierLaws.{modifiers_steady}

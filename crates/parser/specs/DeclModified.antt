@@ -1,5 +1,5 @@
 -- What the code that reads a declaration's modifiers promises.
-use Rattle.std.specs.Prelude.{ℕ, ◌+◌, ◌<◌, ◌≡◌}
+use Rattle.std.specs.Prelude.{ℕ, ◌≡◌}
 use Rattle.tokens.specs.Input.{Input}
 use Rattle.steps.specs.declared.Parsed.{Parsed}
 use Rattle.steps.specs.Met.{Flags, moved, inside}

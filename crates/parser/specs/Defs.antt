@@ -1,5 +1,5 @@
 -- Definitions of parser.rs: parse_defs, parse_def and the functions for the covered forms.
-use Rattle.std.specs.Prelude.{ℕ, ◌+◌, ◌-◌, ◌*◌, Bool, true, false, List, leb, ltb, eqb}
+use Rattle.std.specs.Prelude.{ℕ, ◌+◌, ◌-◌, ◌*◌, Bool, true, List, leb, ltb, eqb}
 use Rattle.trees.specs.Choice.{pick, choose}
 use Rattle.trees.specs.Tree.{node, ∅, ◌▸◌, head}
 use Rattle.trees.specs.Ast.{kind_decl, kind_attr, kind_attr_kind_chain, kind_attr_kind_priority, kind_attr_kind_tag, kind_extern_constructor, kind_extern_extractor, kind_extern_const, kind_extractor, kind_rule, kind_priority, kind_converter, flag}

@@ -1,5 +1,5 @@
 -- What the code that reads a type's modifiers promises.
-use Rattle.std.specs.Prelude.{ℕ, zero, suc, ◌+◌, ◌≤◌, ◌<◌, ◌≡◌, List, Bool, true, false}
+use Rattle.std.specs.Prelude.{ℕ, suc, ◌+◌, ◌≤◌, ◌<◌, ◌≡◌, List, Bool}
 use Rattle.trees.specs.Choice.{pick, choose}
 use Rattle.tokens.specs.Token.{token_at, is_symbol}
 use Rattle.tokens.specs.Input.{Input, size}

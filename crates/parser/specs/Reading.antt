@@ -1,5 +1,5 @@
 -- What reading answers and leaves in the output, for every input: refusals in the order 7, 1, 2, the first met from the left, 6.
-use Rattle.std.specs.Prelude.{ℕ, ◌*◌, ◌/◌, ◌%◌, ◌≡◌, List, length, replicate, ltb, leb, eqb}
+use Rattle.std.specs.Prelude.{ℕ, ◌%◌, List, length, replicate, ltb, leb, eqb}
 use Rattle.trees.specs.Choice.{pick, choose}
 use Rattle.trees.specs.Tree.{Trees, records_all}
 use Rattle.records.specs.Slots.{writes}

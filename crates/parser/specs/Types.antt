@@ -1,6 +1,6 @@
 -- Types of parser.rs: parse_type, parse_typevalue, parse_type_variant, parse_fields and what they read.
-use Rattle.std.specs.Prelude.{ℕ, zero, suc, ◌+◌, Bool, true, false}
-use Rattle.trees.specs.Choice.{pick, choose}
+use Rattle.std.specs.Prelude.{ℕ, zero, suc, ◌+◌}
+use Rattle.trees.specs.Choice.{choose}
 use Rattle.trees.specs.Tree.{∅, head}
 use Rattle.trees.specs.Ast.{kind_type_def, kind_type_value_primitive, kind_type_value_enum, kind_type_value_struct, kind_variant, kind_fields_unit, kind_fields_struct, kind_fields_tuple, kind_struct_field, kind_tuple_field}
 use Rattle.tokens.specs.Token.{is_lparen, is_rparen, is_symbol, is_word}

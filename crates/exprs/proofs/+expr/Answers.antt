@@ -1,17 +1,11 @@
 use Rattle.steps.proofs.StepLaws.{token-inside, told, const_tested}
 use borrow.Author.Rules.{rules}
 use native.Mathlib.Omega.{arith}
-use mathlib.Core.Path.{◌≡◌}
-use lib.ListN.{length}
-use Prim.Native.Nat.{ℕ, ◌+◌, ◌*◌, ◌<◌}
-use Rattle.tokens.specs.Input.{input}
-use Rattle.steps.specs.Met.{Ready, ends_at}
 use Rattle.steps.proofs.MetLaws.{chain, token, refusing, node-read, leaf-here, leaf_by, next_yes, next_no, second_yes, second_no, by_again}
 use Rattle.steps.proofs.SizeLaws.{near-ready, small-after, small-moved, ready-inside, ready-after, ready_less, ready-token, ready_token_less, lparen_kinded, rparen_kinded, word_kinded, ident-bounded, ident_steady, near-inside, ready_again, near_again}
-use Rattle.steps.proofs.RowLaws.{Going, left, going_start, row-going, row_falls, row_met}
-use Rattle.exprs.specs.Expr.{parse_letdef, let_inside, parse_expr_inner_parens, expr_in, parse_expr}
+use Rattle.steps.proofs.RowLaws.{going_start, row-going, row_falls, row_met}
+use Rattle.exprs.specs.Expr.{parse_letdef, let_inside, parse_expr_inner_parens, expr_in}
 use Rattle.exprs.proofs.ExprLaws.{expr_steady, expr_item, exprs_steady, letdef_steady, letdef_item, defs_steady, inner_steady, too_deep, not_too_deep}
-use Prim.Native.Nat.{ℕ, ◌<◌}
 use Rattle.exprs.proofs.+expr.Goals as goal
 
 pub parse_expr-returns-then-depth-eq0 : goal.parse_expr-returns-then-depth-eq0

@@ -1,8 +1,6 @@
-use borrow.Author.Rules.{rules}
-use native.Mathlib.Omega.{arith}
 use Rattle.steps.proofs.MetLaws.{chain, token}
 use Rattle.steps.proofs.StepLaws.{next-after}
-use Rattle.steps.proofs.SizeLaws.{near-ready, ready-token, ready_token_less, ready-more, word_kinded, lparen_kinded}
+use Rattle.steps.proofs.SizeLaws.{near-ready, ready-token, word_kinded, lparen_kinded}
 use Rattle.parser.proofs.def_type.Goals as goal
 
 pub expect_word_of-word-requires-clause-near : goal.expect_word_of-word-requires-clause-near

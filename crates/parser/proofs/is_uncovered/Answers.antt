@@ -1,5 +1,4 @@
 use Rattle.parser.proofs.DefLaws.{uncovered_1, uncovered_2, uncovered_3, uncovered_4, uncovered_5, uncovered_6}
-use borrow.Author.Rules.{rules}
 use Rattle.parser.proofs.is_uncovered.Goals as goal
 
 pub returns-then-is_word : goal.returns-then-is_word

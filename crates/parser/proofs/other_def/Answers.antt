@@ -1,6 +1,5 @@
 use Rattle.steps.proofs.SizeLaws.{near-ready, ready-token, lparen_kinded}
 use Rattle.parser.proofs.DefLaws.{other_uncovered, other_unknown}
-use borrow.Author.Rules.{rules}
 use Rattle.parser.proofs.other_def.Goals as goal
 
 pub refuse_after-requires : goal.refuse_after-requires

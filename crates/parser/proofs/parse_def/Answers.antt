@@ -1,7 +1,6 @@
 use Rattle.steps.proofs.MetLaws.{second_yes, second_no}
 use Rattle.steps.proofs.SizeLaws.{near-ready}
 use Rattle.parser.specs.Defs.{parse_def}
-use borrow.Author.Rules.{rules}
 use Rattle.parser.proofs.parse_def.Goals as goal
 
 pub second_token-u-requires : goal.second_token-u-requires

@@ -1,6 +1,5 @@
 use Rattle.steps.proofs.MetLaws.{second_yes, second_no}
 use Rattle.parser.specs.Defs.{rest_def}
-use borrow.Author.Rules.{rules}
 use Rattle.parser.proofs.parse_def_rest.Goals as goal
 
 pub returns-then-is_word : goal.returns-then-is_word

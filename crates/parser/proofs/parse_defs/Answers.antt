@@ -1,14 +1,7 @@
 use borrow.Author.Rules.{rules}
-use mathlib.Core.Path.{◌≡◌}
-use Prim.Native.Nat.{ℕ}
-use lib.ListN.{length}
-use lib.Dec.{leb}
-use Rattle.tokens.specs.Token.{token_count}
-use Rattle.tokens.specs.Input.{input}
-use Rattle.steps.specs.Met.{Ready}
 use Rattle.steps.proofs.SizeLaws.{ready-after}
-use Rattle.steps.proofs.RowLaws.{Going, left, going_start, row-going, row_falls, row_met}
-use Rattle.parser.specs.Defs.{parse_def, parse_defs}
+use Rattle.steps.proofs.RowLaws.{going_start, row-going, row_falls, row_met}
+use Rattle.parser.specs.Defs.{parse_defs}
 use Rattle.parser.proofs.DefLaws.{def_item, def_steady}
 use Rattle.parser.proofs.parse_defs.Goals as goal
 

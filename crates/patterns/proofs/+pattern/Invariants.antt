@@ -1,17 +1,10 @@
-use Rattle.steps.proofs.StepLaws.{token-inside, told, const_tested}
-use borrow.Author.Rules.{rules}
-use native.Mathlib.Omega.{arith}
 use mathlib.Core.Path.{◌≡◌}
 use lib.ListN.{length}
-use Prim.Native.Nat.{ℕ, ◌+◌, ◌*◌, ◌<◌}
+use Prim.Native.Nat.{◌+◌, ◌*◌}
 use Rattle.tokens.specs.Input.{input}
 use Rattle.steps.specs.Met.{Ready, ends_at}
-use Rattle.steps.proofs.MetLaws.{chain, token, refusing, node-read, leaf-here, leaf_by, next_yes, next_no, second_yes, second_no, second_at, second_not_at, by_again}
-use Rattle.steps.proofs.SizeLaws.{near-ready, small-after, small-moved, ready-inside, ready-after, ready_less, ready-token, ready_token_less, lparen_kinded, at_kinded, word_kinded, ident-bounded, ident_steady, near-inside, ready_again, near_again}
-use Rattle.steps.proofs.RowLaws.{Going, left, going_start, row-going, row_falls, row_met}
-use Rattle.patterns.specs.Pattern.{compound, pattern_in, parse_pattern}
-use Rattle.patterns.proofs.PatternLaws.{pattern_steady, pattern_item, patterns_steady, too_deep, not_too_deep}
-use Prim.Native.Nat.{ℕ, ◌<◌}
+use Rattle.steps.proofs.RowLaws.{Going, left}
+use Rattle.patterns.specs.Pattern.{parse_pattern}
 use Rattle.patterns.proofs.+pattern.Given as goal
 
 abbrev pub decreases-parse_and : goal.decreases-parse_and

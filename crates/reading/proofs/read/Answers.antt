@@ -1,5 +1,4 @@
 use Rattle.reading.proofs.ReadLaws.{too_many, too_long, cut_short, bad-token, all-good}
-use borrow.Author.Rules.{rules}
 use Rattle.reading.proofs.read.Goals as goal
 
 pub returns-then-count-gt16384 : goal.returns-then-count-gt16384

@@ -1,5 +1,4 @@
 use Rattle.reading.proofs.ReadLaws.{begins, good-finished, good-countable}
-use borrow.Author.Rules.{rules}
 use Rattle.reading.proofs.read_good.Goals as goal
 
 pub parse_defs-p-requires : goal.parse_defs-p-requires

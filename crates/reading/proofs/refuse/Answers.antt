@@ -1,5 +1,4 @@
 use Rattle.reading.proofs.ReadLaws.{stops}
-use borrow.Author.Rules.{rules}
 use Rattle.reading.proofs.refuse.Goals as goal
 
 pub returns : goal.returns

@@ -1,5 +1,4 @@
 use Rattle.reading.proofs.ReadLaws.{settle-full, settle-kept}
-use borrow.Author.Rules.{rules}
 use Rattle.reading.proofs.settle.Goals as goal
 
 pub returns-then-out-n : goal.returns-then-out-n

@@ -1,5 +1,4 @@
 use Rattle.exprs.proofs.IfletLaws.{more-iflet, more_if, more-none}
-use borrow.Author.Rules.{rules}
 use Rattle.exprs.proofs.iflets.more_iflets.Goals as goal
 
 pub returns-then-is_word : goal.returns-then-is_word

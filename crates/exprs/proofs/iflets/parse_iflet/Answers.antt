@@ -1,10 +1,9 @@
 use native.Mathlib.Omega.{arith}
 use Rattle.steps.proofs.MetLaws.{chain, node-read}
-use Rattle.steps.proofs.SizeLaws.{near-ready, small-after, ready-inside, ready-after, ready-more}
+use Rattle.steps.proofs.SizeLaws.{near-ready, small-after, ready-inside, ready-after}
 use Rattle.patterns.proofs.PatternLaws.{pattern_steady}
 use Rattle.exprs.specs.Expr.{parse_iflet}
 use Rattle.exprs.proofs.ExprLaws.{expr_steady}
-use borrow.Author.Rules.{rules}
 use Rattle.exprs.proofs.iflets.parse_iflet.Goals as goal
 
 pub inside-requires : goal.inside-requires

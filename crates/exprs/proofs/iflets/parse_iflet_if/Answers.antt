@@ -4,7 +4,6 @@ use Rattle.steps.proofs.SizeLaws.{near-ready, small-after, small-ready, ready-in
 use Rattle.exprs.specs.Expr.{parse_iflet_if}
 use Rattle.exprs.proofs.ExprLaws.{expr_steady}
 use Rattle.exprs.proofs.IfletLaws.{wildcard-bounded}
-use borrow.Author.Rules.{rules}
 use Rattle.exprs.proofs.iflets.parse_iflet_if.Goals as goal
 
 pub inside-children-requires : goal.inside-children-requires

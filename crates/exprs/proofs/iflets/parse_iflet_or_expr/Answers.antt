@@ -1,7 +1,6 @@
 use Rattle.steps.proofs.MetLaws.{next_yes, next_no, second_yes, second_no}
 use Rattle.steps.proofs.SizeLaws.{near-ready}
 use Rattle.exprs.specs.Expr.{parse_iflet_or_expr}
-use borrow.Author.Rules.{rules}
 use Rattle.exprs.proofs.iflets.parse_iflet_or_expr.Goals as goal
 
 pub second_token-u-requires : goal.second_token-u-requires

@@ -1,7 +1,6 @@
 use native.Mathlib.Omega.{arith}
 use Rattle.steps.proofs.MetLaws.{chain, token}
 use Rattle.steps.proofs.SizeLaws.{ready_token_less, ready-token, lparen_kinded, word_kinded}
-use borrow.Author.Rules.{rules}
 use Rattle.exprs.proofs.iflets.parse_iflet_parens.Goals as goal
 
 pub parse_iflet-q-requires : goal.parse_iflet-q-requires

@@ -1,11 +1,6 @@
 use borrow.Author.Rules.{rules}
-use mathlib.Core.Path.{◌≡◌}
-use lib.ListN.{length}
-use Rattle.tokens.specs.Input.{input}
-use Rattle.steps.specs.Met.{Ready}
 use Rattle.steps.proofs.SizeLaws.{near-ready, ready-after}
-use Rattle.steps.proofs.RowLaws.{Going, left, going_start, row-going, row_falls, row_met}
-use Rattle.exprs.specs.Expr.{parse_iflet_or_expr, no_iflet}
+use Rattle.steps.proofs.RowLaws.{going_start, row-going, row_falls, row_met}
 use Rattle.exprs.proofs.IfletLaws.{either_steady, either_item}
 use Rattle.exprs.proofs.iflets.parse_iflets.Goals as goal
 

@@ -1,12 +1,9 @@
-use borrow.Author.Rules.{rules}
 use mathlib.Core.Path.{◌≡◌}
 use lib.ListN.{length}
 use Rattle.tokens.specs.Input.{input}
 use Rattle.steps.specs.Met.{Ready}
-use Rattle.steps.proofs.SizeLaws.{near-ready, ready-after}
-use Rattle.steps.proofs.RowLaws.{Going, left, going_start, row-going, row_falls, row_met}
+use Rattle.steps.proofs.RowLaws.{Going, left}
 use Rattle.exprs.specs.Expr.{parse_iflet_or_expr, no_iflet}
-use Rattle.exprs.proofs.IfletLaws.{either_steady, either_item}
 use Rattle.exprs.proofs.iflets.parse_iflets.Given as goal
 
 abbrev pub invariant-loop-out : goal.invariant-loop-out

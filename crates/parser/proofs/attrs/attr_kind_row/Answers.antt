@@ -1,11 +1,6 @@
 use borrow.Author.Rules.{rules}
-use mathlib.Core.Path.{◌≡◌}
-use lib.ListN.{length}
-use Rattle.tokens.specs.Input.{input}
-use Rattle.steps.specs.Met.{Ready, ends_at}
 use Rattle.steps.proofs.SizeLaws.{ready-after}
-use Rattle.steps.proofs.RowLaws.{Going, left, going_start, row-going, row_falls, row_met}
-use Rattle.parser.specs.Defs.{parse_attr_kind}
+use Rattle.steps.proofs.RowLaws.{going_start, row-going, row_falls, row_met}
 use Rattle.parser.proofs.DefLaws.{attr_kind_item, attr_kind_steady}
 use Rattle.parser.proofs.attrs.attr_kind_row.Goals as goal
 

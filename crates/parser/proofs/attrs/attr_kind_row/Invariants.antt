@@ -1,12 +1,9 @@
-use borrow.Author.Rules.{rules}
 use mathlib.Core.Path.{◌≡◌}
 use lib.ListN.{length}
 use Rattle.tokens.specs.Input.{input}
 use Rattle.steps.specs.Met.{Ready, ends_at}
-use Rattle.steps.proofs.SizeLaws.{ready-after}
-use Rattle.steps.proofs.RowLaws.{Going, left, going_start, row-going, row_falls, row_met}
+use Rattle.steps.proofs.RowLaws.{Going, left}
 use Rattle.parser.specs.Defs.{parse_attr_kind}
-use Rattle.parser.proofs.DefLaws.{attr_kind_item, attr_kind_steady}
 use Rattle.parser.proofs.attrs.attr_kind_row.Given as goal
 
 abbrev pub invariant-loop-out : goal.invariant-loop-out

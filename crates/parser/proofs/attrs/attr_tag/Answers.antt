@@ -1,7 +1,5 @@
-use native.Mathlib.Omega.{arith}
 use Rattle.steps.proofs.MetLaws.{chain, token}
-use Rattle.steps.proofs.SizeLaws.{ready-token, ready_token_less, ready-more, word_kinded, lparen_kinded}
-use borrow.Author.Rules.{rules}
+use Rattle.steps.proofs.SizeLaws.{ready-token, word_kinded, lparen_kinded}
 use Rattle.parser.proofs.attrs.attr_tag.Goals as goal
 
 pub tag_name-q-requires : goal.tag_name-q-requires

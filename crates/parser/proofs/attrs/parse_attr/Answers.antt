@@ -4,7 +4,6 @@ use Rattle.steps.proofs.MetLaws.{chain, flagged-read, eating}
 use Rattle.steps.proofs.SizeLaws.{near-ready, small-after, ready-inside, ready-after, ready_less, eat_steady, ident-bounded}
 use Rattle.parser.specs.Defs.{parse_attr}
 use Rattle.parser.proofs.DefLaws.{attr_kinds_steady}
-use borrow.Author.Rules.{rules}
 use Rattle.parser.proofs.attrs.parse_attr.Goals as goal
 
 pub inside-requires : goal.inside-requires

@@ -1,7 +1,6 @@
 use Rattle.steps.proofs.MetLaws.{second_yes, second_no, chain, token, refusing_after}
 use Rattle.steps.proofs.SizeLaws.{near-ready, ready-token, lparen_kinded}
 use Rattle.parser.specs.Defs.{parse_attr_kind}
-use borrow.Author.Rules.{rules}
 use Rattle.parser.proofs.attrs.parse_attr_kind.Goals as goal
 
 pub second_token-u-requires : goal.second_token-u-requires

@@ -1,7 +1,6 @@
 use Rattle.steps.proofs.MetLaws.{next_yes, next_no, refusing_after}
 use Rattle.steps.proofs.SizeLaws.{near-ready}
 use Rattle.parser.specs.Defs.{parse_attr_kind_veri}
-use borrow.Author.Rules.{rules}
 use Rattle.parser.proofs.attrs.parse_attr_kind_veri.Goals as goal
 
 pub returns-then-is_word : goal.returns-then-is_word

@@ -1,7 +1,6 @@
 use native.Mathlib.Omega.{arith}
 use Rattle.steps.proofs.MetLaws.{bare-read}
 use Rattle.steps.proofs.SizeLaws.{near-ready, small-after, ready-inside, ident_steady}
-use borrow.Author.Rules.{rules}
 use Rattle.parser.proofs.attrs.tag_name.Goals as goal
 
 pub inside-children-requires : goal.inside-children-requires

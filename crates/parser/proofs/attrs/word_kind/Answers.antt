@@ -1,7 +1,6 @@
 use Rattle.steps.proofs.MetLaws.{bare-read, token}
 use Rattle.steps.proofs.SizeLaws.{near-ready, small-moved}
 use Rattle.parser.proofs.TypeLaws.{small-inside}
-use borrow.Author.Rules.{rules}
 use Rattle.parser.proofs.attrs.word_kind.Goals as goal
 
 pub inside-requires : goal.inside-requires

@@ -1,6 +1,5 @@
 use native.Mathlib.Omega.{arith}
 use Rattle.parser.proofs.DeclLaws.{ate-is, decl_modified}
-use borrow.Author.Rules.{rules}
 use Rattle.parser.proofs.decls.decl_modifiers.Goals as goal
 
 pub ate_of-b-requires-clause-at_bound : goal.ate_of-b-requires-clause-at_bound

@@ -2,7 +2,6 @@ use Rattle.steps.proofs.MetLaws.{chain, token}
 use Rattle.steps.proofs.SizeLaws.{ready-after, ready-token, lparen_kinded, rparen_kinded, ident_steady}
 use Rattle.steps.proofs.RowLaws.{idents_steady}
 use Rattle.parser.specs.Defs.{decl_names}
-use borrow.Author.Rules.{rules}
 use Rattle.parser.proofs.decls.decl_names.Goals as goal
 
 pub parse_idents-args-requires : goal.parse_idents-args-requires

@@ -1,6 +1,5 @@
 use Rattle.parser.proofs.DeclLaws.{state_refused, state_at, near-index}
 use Rattle.steps.proofs.StepLaws.{slot-fits}
-use borrow.Author.Rules.{rules}
 use Rattle.parser.proofs.decls.decl_state.Goals as goal
 
 pub returns-in_default : goal.returns-in_default

@@ -1,7 +1,6 @@
 use Rattle.steps.proofs.MetLaws.{chain, token}
 use Rattle.steps.proofs.SizeLaws.{ready-after, ready-token, lparen_kinded, ident_steady}
 use Rattle.parser.specs.Defs.{etor_head}
-use borrow.Author.Rules.{rules}
 use Rattle.parser.proofs.decls.etor_head.Goals as goal
 
 pub parse_ident-term-requires : goal.parse_ident-term-requires

@@ -1,7 +1,6 @@
 use native.Mathlib.Omega.{arith}
 use Rattle.steps.proofs.MetLaws.{chain, node-read}
 use Rattle.steps.proofs.SizeLaws.{near-ready, small-after, ready-inside, ready-after, const_steady, ident_steady}
-use borrow.Author.Rules.{rules}
 use Rattle.parser.proofs.decls.extern_const.Goals as goal
 
 pub inside-children-requires : goal.inside-children-requires

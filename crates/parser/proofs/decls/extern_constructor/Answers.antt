@@ -1,7 +1,6 @@
 use native.Mathlib.Omega.{arith}
 use Rattle.steps.proofs.MetLaws.{chain, token, node-read}
 use Rattle.steps.proofs.SizeLaws.{near-ready, small-after, ready-inside, ready-after, ready-token, word_kinded, ident_steady}
-use borrow.Author.Rules.{rules}
 use Rattle.parser.proofs.decls.extern_constructor.Goals as goal
 
 pub inside-requires : goal.inside-requires

@@ -2,7 +2,6 @@ use mathlib.Core.List.{[]}
 use native.Mathlib.Omega.{arith}
 use Rattle.steps.proofs.MetLaws.{chain, token, flagged-read, eating}
 use Rattle.steps.proofs.SizeLaws.{near-ready, small-after, ready-inside, ready-after, ready-token, word_kinded, eat_steady, ident_steady}
-use borrow.Author.Rules.{rules}
 use Rattle.parser.proofs.decls.extern_extractor.Goals as goal
 
 pub eaten_second-flags-requires : goal.eaten_second-flags-requires

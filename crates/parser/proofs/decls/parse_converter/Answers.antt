@@ -2,7 +2,6 @@ use native.Mathlib.Omega.{arith}
 use Rattle.steps.proofs.MetLaws.{chain, node-read}
 use Rattle.steps.proofs.SizeLaws.{near-ready, small-after, ready-inside, ready-after, ident_steady}
 use Rattle.parser.specs.Defs.{parse_converter}
-use borrow.Author.Rules.{rules}
 use Rattle.parser.proofs.decls.parse_converter.Goals as goal
 
 pub inside-children-requires : goal.inside-children-requires

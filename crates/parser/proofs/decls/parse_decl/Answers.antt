@@ -1,11 +1,9 @@
 use mathlib.Core.List.{[]}
-use native.Mathlib.Omega.{arith}
 use Rattle.steps.proofs.MetLaws.{chain, flagged-read}
-use Rattle.steps.proofs.SizeLaws.{near-ready, small-after, ready-after, ready-inside}
+use Rattle.steps.proofs.SizeLaws.{near-ready, small-after}
 use Rattle.parser.specs.Defs.{parse_decl}
 use Rattle.parser.proofs.DeclLaws.{modifiers_read, modifiers_ready, decl_names_steady}
 use mathlib.Core.Path.{refl}
-use borrow.Author.Rules.{rules}
 use Rattle.parser.proofs.decls.parse_decl.Goals as goal
 
 pub decl_state-m-requires : goal.decl_state-m-requires

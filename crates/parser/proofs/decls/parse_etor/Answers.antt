@@ -4,7 +4,6 @@ use Rattle.steps.proofs.SizeLaws.{near-ready, small-after, ready-inside, ready_l
 use Rattle.patterns.proofs.PatternLaws.{pattern_steady}
 use Rattle.parser.specs.Defs.{parse_etor}
 use Rattle.parser.proofs.DeclLaws.{etor_head_spare}
-use borrow.Author.Rules.{rules}
 use Rattle.parser.proofs.decls.parse_etor.Goals as goal
 
 pub inside-children-requires : goal.inside-children-requires

@@ -1,7 +1,6 @@
 use Rattle.steps.proofs.MetLaws.{next_yes, next_no, chain, token, refusing}
 use Rattle.steps.proofs.SizeLaws.{ready-token, word_kinded}
 use Rattle.parser.specs.Defs.{parse_extern}
-use borrow.Author.Rules.{rules}
 use Rattle.parser.proofs.decls.parse_extern.Goals as goal
 
 pub returns-then-is_word : goal.returns-then-is_word

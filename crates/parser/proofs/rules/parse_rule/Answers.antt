@@ -1,7 +1,6 @@
 use native.Mathlib.Omega.{arith}
 use Rattle.steps.proofs.SizeLaws.{near-ready, small-after, ready-inside}
 use Rattle.parser.proofs.RuleLaws.{rule_parts_steady, rule-read}
-use borrow.Author.Rules.{rules}
 use Rattle.parser.proofs.rules.parse_rule.Goals as goal
 
 pub rule_flags-flags-requires : goal.rule_flags-flags-requires

@@ -1,6 +1,5 @@
 use Rattle.parser.proofs.RuleLaws.{place_stays, place-refused}
 use Rattle.steps.proofs.StepLaws.{near_next}
-use borrow.Author.Rules.{rules}
 use Rattle.parser.proofs.rules.refuse_place.Goals as goal
 
 pub returns-in_default : goal.returns-in_default

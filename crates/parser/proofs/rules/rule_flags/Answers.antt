@@ -1,5 +1,4 @@
 use Rattle.parser.proofs.RuleLaws.{flags-both, flags-named, flags-priority, flags-none}
-use borrow.Author.Rules.{rules}
 use Rattle.parser.proofs.rules.rule_flags.Goals as goal
 
 pub returns-then-is_int : goal.returns-then-is_int

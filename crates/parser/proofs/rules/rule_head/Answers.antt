@@ -1,7 +1,6 @@
 use Rattle.steps.proofs.MetLaws.{chain}
 use Rattle.steps.proofs.SizeLaws.{ready-after}
 use Rattle.parser.proofs.RuleLaws.{rule_name_steady}
-use borrow.Author.Rules.{rules}
 use Rattle.parser.proofs.rules.rule_head.Goals as goal
 
 pub rule_priority-requires : goal.rule_priority-requires

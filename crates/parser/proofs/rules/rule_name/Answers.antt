@@ -2,7 +2,6 @@ use Rattle.steps.proofs.MetLaws.{next_no, nothing_read}
 use Rattle.steps.proofs.SizeLaws.{near-ready}
 use Rattle.parser.specs.Defs.{rule_name}
 use Rattle.parser.proofs.RuleLaws.{name-refused, name-read}
-use borrow.Author.Rules.{rules}
 use Rattle.parser.proofs.rules.rule_name.Goals as goal
 
 pub second_token-u-requires : goal.second_token-u-requires

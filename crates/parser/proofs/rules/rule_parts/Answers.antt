@@ -5,7 +5,6 @@ use Rattle.patterns.proofs.PatternLaws.{pattern_steady}
 use Rattle.exprs.proofs.IfletLaws.{iflets_steady}
 use Rattle.parser.specs.Defs.{rule_parts}
 use Rattle.parser.proofs.RuleLaws.{rule_head_steady}
-use borrow.Author.Rules.{rules}
 use Rattle.parser.proofs.rules.rule_parts.Goals as goal
 
 pub rule_head-head-requires : goal.rule_head-head-requires

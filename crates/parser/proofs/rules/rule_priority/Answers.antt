@@ -1,6 +1,5 @@
 use Rattle.steps.proofs.SizeLaws.{near-ready}
 use Rattle.parser.proofs.RuleLaws.{priority-read, priority-refused, priority-none}
-use borrow.Author.Rules.{rules}
 use Rattle.parser.proofs.rules.rule_priority.Goals as goal
 
 pub put_leaf-requires : goal.put_leaf-requires

@@ -1,5 +1,4 @@
 use Rattle.parser.proofs.ModifierLaws.{turn_extern, turn_nodebug, turn_none}
-use borrow.Author.Rules.{rules}
 use Rattle.parser.proofs.types.modifier.Goals as goal
 
 pub returns-then-is_word : goal.returns-then-is_word

@@ -1,6 +1,5 @@
 use Rattle.parser.proofs.ModifierLaws.{modified_refused, modified_at, from_near, few-tokens}
 use Rattle.steps.proofs.StepLaws.{next_fits}
-use borrow.Author.Rules.{rules}
 use Rattle.parser.proofs.types.modifiers_after.Goals as goal
 
 pub returns-in_default : goal.returns-in_default

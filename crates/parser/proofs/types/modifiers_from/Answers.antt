@@ -1,9 +1,5 @@
-use borrow.Author.Rules.{rules}
-use Prim.Native.Nat.{◌≤◌, ◌+◌, ◌-◌}
 use borrow.Author.Tests.{not-true, not-false}
-use Rattle.tokens.specs.Input.{input}
-use Rattle.tokens.specs.Token.{token_count}
-use Rattle.parser.proofs.ModifierLaws.{Passing, passing_start, passing_on, passing_stop, passing_end}
+use Rattle.parser.proofs.ModifierLaws.{passing_start, passing_on, passing_stop, passing_end}
 use Rattle.parser.proofs.types.modifiers_from.Goals as goal
 
 pub loop-at-init : goal.loop-at-init

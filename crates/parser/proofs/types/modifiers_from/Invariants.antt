@@ -1,9 +1,7 @@
-use borrow.Author.Rules.{rules}
-use Prim.Native.Nat.{◌≤◌, ◌+◌, ◌-◌}
-use borrow.Author.Tests.{not-true, not-false}
+use Prim.Native.Nat.{◌-◌}
 use Rattle.tokens.specs.Input.{input}
 use Rattle.tokens.specs.Token.{token_count}
-use Rattle.parser.proofs.ModifierLaws.{Passing, passing_start, passing_on, passing_stop, passing_end}
+use Rattle.parser.proofs.ModifierLaws.{Passing}
 use Rattle.parser.proofs.types.modifiers_from.Given as goal
 
 abbrev pub invariant-loop-at : goal.invariant-loop-at

@@ -1,7 +1,6 @@
 use Rattle.steps.proofs.MetLaws.{next_yes, next_no}
 use Rattle.steps.proofs.SizeLaws.{near-ready}
 use Rattle.parser.specs.Types.{parse_fields}
-use borrow.Author.Rules.{rules}
 use Rattle.parser.proofs.types.parse_fields.Goals as goal
 
 pub unit_fields-requires : goal.unit_fields-requires

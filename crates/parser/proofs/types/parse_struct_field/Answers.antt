@@ -2,7 +2,6 @@ use native.Mathlib.Omega.{arith}
 use Rattle.steps.proofs.MetLaws.{chain, token, node-read}
 use Rattle.steps.proofs.SizeLaws.{near-ready, small-after, small-moved, ready-inside, ready-after, ready-token, lparen_kinded, ident_steady}
 use Rattle.parser.specs.Types.{parse_struct_field}
-use borrow.Author.Rules.{rules}
 use Rattle.parser.proofs.types.parse_struct_field.Goals as goal
 
 pub inside-requires : goal.inside-requires

@@ -1,7 +1,6 @@
 use native.Mathlib.Omega.{arith}
 use Rattle.steps.proofs.SizeLaws.{near-ready, small-after, ready-inside, ident_steady}
 use Rattle.parser.proofs.TypeLaws.{stays_at, tuple_field_read, ready-here}
-use borrow.Author.Rules.{rules}
 use Rattle.parser.proofs.types.parse_tuple_field.Goals as goal
 
 pub returns-in_default : goal.returns-in_default

@@ -3,7 +3,6 @@ use Rattle.steps.proofs.MetLaws.{node-read}
 use Rattle.steps.proofs.SizeLaws.{near-ready, small-after, ready-inside}
 use Rattle.parser.specs.Types.{parse_tuple_fields}
 use Rattle.parser.proofs.TypeLaws.{tuple_fields_steady, tuple_row_read}
-use borrow.Author.Rules.{rules}
 use Rattle.parser.proofs.types.parse_tuple_fields.Goals as goal
 
 pub inside-children-requires : goal.inside-children-requires

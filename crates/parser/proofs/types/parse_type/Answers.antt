@@ -1,4 +1,3 @@
-use borrow.Author.Rules.{rules}
 use native.Mathlib.Omega.{arith}
 use Rattle.steps.proofs.MetLaws.{chain, flagged-read}
 use Rattle.steps.proofs.SizeLaws.{near-ready, small-after, ready-inside, ready-after, ready_less, ident-bounded}

@@ -1,6 +1,5 @@
 use Rattle.steps.proofs.MetLaws.{next_yes, next_no}
 use Rattle.parser.specs.Types.{parse_type_variant}
-use borrow.Author.Rules.{rules}
 use Rattle.parser.proofs.types.parse_type_variant.Goals as goal
 
 pub returns-then-is_symbol : goal.returns-then-is_symbol

@@ -1,4 +1,3 @@
-use borrow.Author.Rules.{rules}
 use Rattle.steps.proofs.MetLaws.{second_yes, second_no, refusing_after}
 use Rattle.steps.proofs.SizeLaws.{near-ready}
 use Rattle.parser.specs.Types.{parse_typevalue}

@@ -1,5 +1,4 @@
 use Rattle.parser.proofs.ModifierLaws.{passed-refused, passed-wrong, passed_on}
-use borrow.Author.Rules.{rules}
 use Rattle.parser.proofs.types.pass_modifiers.Goals as goal
 
 pub returns-in_default : goal.returns-in_default

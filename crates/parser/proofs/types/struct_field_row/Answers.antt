@@ -1,11 +1,6 @@
 use borrow.Author.Rules.{rules}
-use mathlib.Core.Path.{◌≡◌}
-use lib.ListN.{length}
-use Rattle.tokens.specs.Input.{input}
-use Rattle.steps.specs.Met.{Ready, ends_at}
 use Rattle.steps.proofs.SizeLaws.{ready-after}
-use Rattle.steps.proofs.RowLaws.{Going, left, going_start, row-going, row_falls, row_met}
-use Rattle.parser.specs.Types.{parse_struct_field}
+use Rattle.steps.proofs.RowLaws.{going_start, row-going, row_falls, row_met}
 use Rattle.parser.proofs.TypeLaws.{struct_field_item, struct_field_steady}
 use Rattle.parser.proofs.types.struct_field_row.Goals as goal
 

@@ -1,11 +1,6 @@
 use borrow.Author.Rules.{rules}
-use mathlib.Core.Path.{◌≡◌}
-use lib.ListN.{length}
-use Rattle.tokens.specs.Input.{input}
-use Rattle.steps.specs.Met.{Ready, ends_at}
 use Rattle.steps.proofs.SizeLaws.{ready_after_at}
-use Rattle.steps.proofs.RowLaws.{Going, left, going_start, going_on, left_falls, going_end}
-use Rattle.parser.specs.Types.{parse_tuple_field}
+use Rattle.steps.proofs.RowLaws.{going_start, going_on, left_falls, going_end}
 use Rattle.parser.proofs.TypeLaws.{tuple_field_item, tuple_field_steady}
 use Rattle.parser.proofs.types.tuple_field_row.Goals as goal
 

@@ -1,12 +1,9 @@
-use borrow.Author.Rules.{rules}
 use mathlib.Core.Path.{◌≡◌}
 use lib.ListN.{length}
 use Rattle.tokens.specs.Input.{input}
 use Rattle.steps.specs.Met.{Ready, ends_at}
-use Rattle.steps.proofs.SizeLaws.{ready_after_at}
-use Rattle.steps.proofs.RowLaws.{Going, left, going_start, going_on, left_falls, going_end}
+use Rattle.steps.proofs.RowLaws.{Going, left}
 use Rattle.parser.specs.Types.{parse_tuple_field}
-use Rattle.parser.proofs.TypeLaws.{tuple_field_item, tuple_field_steady}
 use Rattle.parser.proofs.types.tuple_field_row.Given as goal
 
 abbrev pub invariant-loop-out : goal.invariant-loop-out

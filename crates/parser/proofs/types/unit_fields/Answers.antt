@@ -1,6 +1,5 @@
 use Rattle.steps.proofs.MetLaws.{bare-read, nothing_read}
 use Rattle.parser.proofs.TypeLaws.{small-inside}
-use borrow.Author.Rules.{rules}
 use Rattle.parser.proofs.types.unit_fields.Goals as goal
 
 pub close-requires-clause-small : goal.close-requires-clause-small

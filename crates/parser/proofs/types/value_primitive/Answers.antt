@@ -1,7 +1,6 @@
 use native.Mathlib.Omega.{arith}
 use Rattle.steps.proofs.MetLaws.{chain, token, node-read}
 use Rattle.steps.proofs.SizeLaws.{near-ready, small-after, small-moved, ready-inside, ready-token, word_kinded, lparen_kinded, ident_steady}
-use borrow.Author.Rules.{rules}
 use Rattle.parser.proofs.types.value_primitive.Goals as goal
 
 pub inside-requires : goal.inside-requires

@@ -2,7 +2,6 @@ use native.Mathlib.Omega.{arith}
 use Rattle.steps.proofs.MetLaws.{chain, token, node-read}
 use Rattle.steps.proofs.SizeLaws.{near-ready, small_over, small-moved, ready-inside, ready_token_less, ready-token, word_kinded, lparen_kinded}
 use Rattle.parser.proofs.TypeLaws.{fields-bounded}
-use borrow.Author.Rules.{rules}
 use Rattle.parser.proofs.types.value_struct.Goals as goal
 
 pub inside-requires : goal.inside-requires

@@ -2,7 +2,6 @@ use native.Mathlib.Omega.{arith}
 use Rattle.steps.proofs.MetLaws.{chain, token, node-read}
 use Rattle.steps.proofs.SizeLaws.{near-ready, small_over, small-moved, ready-inside, ready_less, ready-token, lparen_kinded, ident-bounded}
 use Rattle.parser.proofs.TypeLaws.{fields-bounded}
-use borrow.Author.Rules.{rules}
 use Rattle.parser.proofs.types.variant_parens.Goals as goal
 
 pub inside-requires : goal.inside-requires

@@ -1,12 +1,9 @@
-use borrow.Author.Rules.{rules}
 use mathlib.Core.Path.{◌≡◌}
 use lib.ListN.{length}
 use Rattle.tokens.specs.Input.{input}
 use Rattle.steps.specs.Met.{Ready, ends_at}
-use Rattle.steps.proofs.SizeLaws.{ready-after}
-use Rattle.steps.proofs.RowLaws.{Going, left, going_start, row-going, row_falls, row_met}
+use Rattle.steps.proofs.RowLaws.{Going, left}
 use Rattle.parser.specs.Types.{parse_type_variant}
-use Rattle.parser.proofs.TypeLaws.{variant_item, variant_steady}
 use Rattle.parser.proofs.types.variant_row.Given as goal
 
 abbrev pub invariant-loop-out : goal.invariant-loop-out

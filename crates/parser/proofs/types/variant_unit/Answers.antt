@@ -2,7 +2,6 @@ use native.Mathlib.Omega.{arith}
 use Rattle.steps.proofs.MetLaws.{chain, node-read}
 use Rattle.steps.proofs.SizeLaws.{near-ready, small_over, ready-inside, ready-after, ident_steady}
 use Rattle.parser.proofs.TypeLaws.{unit_bounded}
-use borrow.Author.Rules.{rules}
 use Rattle.parser.proofs.types.variant_unit.Goals as goal
 
 pub inside-children-requires : goal.inside-children-requires
