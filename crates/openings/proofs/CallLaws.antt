@@ -3,11 +3,10 @@ use Prim.Native.Nat.{ℕ, ◌-◌, ◌*◌, ◌<◌, ◌≤◌}
 use native.Mathlib.Omega.{arith}
 use mathlib.Core.Path.{◌≡◌, refl, sym, ap, ◌∙◌}
 use mathlib.Core.List.{List, ◌++◌}
-use mathlib.Core.Bool.{Bool, true, false, not}
+use mathlib.Core.Bool.{Bool, true, false}
 use lib.ListN.{length, take, replicate}
 use mir.Syntax.{w32}
 use mir.Val.{Fits as FitsIn}
-use borrow.Author.Tests.{not-false}
 use Rattle.trees.specs.declared.Rec.{Rec}
 use Rattle.trees.specs.Tree.{trees_of}
 use Rattle.records.specs.Slots.{slots, recs, writes}

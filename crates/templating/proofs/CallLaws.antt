@@ -1,18 +1,17 @@
 -- One law for each way through a call. Assumes nothing.
-use Prim.Native.Nat.{ℕ, zero, suc, ◌+◌, ◌-◌, ◌*◌, ◌/◌, ◌%◌, ◌<◌, ◌≤◌}
+use Prim.Native.Nat.{ℕ, ◌/◌, ◌%◌, ◌<◌, ◌≤◌}
 use native.Mathlib.Omega.{arith}
-use mathlib.Core.Path.{◌≡◌, refl, sym, ap, ◌∙◌}
+use mathlib.Core.Path.{◌≡◌, refl, sym, ◌∙◌}
 use mathlib.Core.List.{List, [], ◌∷◌}
-use mathlib.Core.Bool.{Bool, true, false, not}
+use mathlib.Core.Bool.{Bool, true, false}
 use lib.ListN.{length, replicate}
-use lib.Dec.{ltb, eqb}
-use borrow.Author.Tests.{lt-ltb, le-ltb, eq-eqb, ne_eqb, ltb-false, ltb-true, not-true, not-false}
-use Rattle.trees.specs.Choice.{pick}
+use lib.Dec.{ltb}
+use borrow.Author.Tests.{lt-ltb, le-ltb, eq-eqb, ne_eqb, ltb-false, ltb-true}
 use Rattle.trees.specs.declared.Rec.{Rec}
 use Rattle.records.specs.Slots.{slots, recs}
 use Rattle.records.specs.Result.{refused}
 use Rattle.forms.specs.Kinds.{name, pattern}
-use Rattle.forms.specs.Forms.{is_one, is_many, fits}
+use Rattle.forms.specs.Forms.{is_one, is_many}
 use Rattle.grounds.proofs.Places.{fits-placed, fits-args, fits-names}
 use Rattle.templates.specs.declared.Answer.{Answer}
 use Rattle.templates.specs.Answers.{MakeReady, SubstituteReady, Finished, Answered}

@@ -1,8 +1,8 @@
 -- What a call on two lent lists answers and leaves in the output, for every input: refusals in the order 7, 1, 3, then 4 or 5, then 6.
 use Rattle.std.specs.Prelude.{ℕ, ◌/◌, ◌%◌, ◌≡◌, Bool, List, length, replicate, ltb, eqb}
-use Rattle.trees.specs.Choice.{pick, choose}
+use Rattle.trees.specs.Choice.{pick}
 use Rattle.trees.specs.declared.Rec.{Rec}
-use Rattle.records.specs.Slots.{slots, recs}
+use Rattle.records.specs.Slots.{recs}
 use Rattle.records.specs.Result.{refused}
 use Rattle.forms.specs.Kinds.{name, pattern}
 use Rattle.forms.specs.Forms.{is_one, is_many}

@@ -9,7 +9,7 @@ use Rattle.tokens.specs.declared.Token.{Token}
 use Rattle.tokens.specs.Lent.{bad_from, first_bad}
 use Rattle.tokens.specs.Input.{Input, size}
 use Rattle.parser.specs.Defs.{parse_defs}
-use Rattle.parser.specs.Reading.{Reading, fitted, judged, reading}
+use Rattle.parser.specs.Reading.{fitted, judged, reading}
 use Rattle.grammar.specs.Meaning.{GoodAt, GoodList}
 use Rattle.lexer.specs.Text.{lexed, at-end}
 use Rattle.lexer.proofs.RunLaws.{stops_only, proper}

@@ -1,5 +1,4 @@
 use Rattle.openings.proofs.CallLaws.{finish_kept, finish_refused, countable-kept, place-fits}
-use borrow.Author.Rules.{rules}
 use Rattle.openings.proofs.finish.Goals as goal
 
 pub keep-requires : goal.keep-requires

@@ -1,5 +1,4 @@
 use Rattle.openings.proofs.CallLaws.{keeps}
-use borrow.Author.Rules.{rules}
 use Rattle.openings.proofs.keep.Goals as goal
 
 pub returns : goal.returns

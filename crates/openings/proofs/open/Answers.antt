@@ -2,7 +2,6 @@ use mathlib.Core.Path.{refl}
 use Rattle.openings.proofs.CallLaws.{wrong_size, wrong_first, wrong_second, right, first_shaped, second_shaped}
 use Rattle.templating.proofs.CallLaws.{short-first, short-second}
 use Rattle.openings.specs.Calls.{opening_of}
-use borrow.Author.Rules.{rules}
 use Rattle.openings.proofs.open.Goals as goal
 
 pub returns-then-n-ne0 : goal.returns-then-n-ne0

@@ -1,5 +1,4 @@
 use Rattle.openings.proofs.CallLaws.{answers-countable, answers-ended}
-use borrow.Author.Rules.{rules}
 use Rattle.openings.proofs.open_by.Goals as goal
 
 pub finish-requires : goal.finish-requires

@@ -1,6 +1,5 @@
 use Rattle.templating.proofs.CallLaws.{wrong_size, wrong_first, wrong_second, right, short-first, short-second, ready_to_substitute}
 use Rattle.templating.specs.Calls.{substituting}
-use borrow.Author.Rules.{rules}
 use Rattle.templating.proofs.fill.Goals as goal
 
 pub returns-then-n-ne0 : goal.returns-then-n-ne0

@@ -1,7 +1,4 @@
-use Prim.Native.Nat.{◌-◌}
-use lib.ListN.{length}
-use Rattle.lexer.proofs.GapLaws.{Run, run-start, run_ended}
-use Rattle.texts.specs.TextReading.{is_ascii}
+use Rattle.lexer.proofs.GapLaws.{run-start, run_ended}
 use Rattle.texts.proofs.ReadLaws.{high-on, high-here}
 use borrow.Author.Rules.{rules}
 use Rattle.texts.proofs.first_high.Goals as goal

@@ -1,9 +1,7 @@
 use Prim.Native.Nat.{◌-◌}
 use lib.ListN.{length}
-use Rattle.lexer.proofs.GapLaws.{Run, run-start, run_ended}
+use Rattle.lexer.proofs.GapLaws.{Run}
 use Rattle.texts.specs.TextReading.{is_ascii}
-use Rattle.texts.proofs.ReadLaws.{high-on, high-here}
-use borrow.Author.Rules.{rules}
 use Rattle.texts.proofs.first_high.Given as goal
 
 abbrev pub invariant-loop-i : goal.invariant-loop-i

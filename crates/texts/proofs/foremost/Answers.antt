@@ -1,5 +1,4 @@
 use Rattle.texts.proofs.ReadLaws.{foremost-many, foremost-none, foremost-name, foremost-refused}
-use borrow.Author.Rules.{rules}
 use Rattle.texts.proofs.foremost.Goals as goal
 
 pub returns-then-is_too_many : goal.returns-then-is_too_many

@@ -1,5 +1,4 @@
 use Rattle.texts.proofs.ReadLaws.{looked-refused, looked-accepted}
-use borrow.Author.Rules.{rules}
 use Rattle.texts.proofs.looked.Goals as goal
 
 pub returns-in-Refused : goal.returns-in-Refused

@@ -1,5 +1,4 @@
 use Rattle.texts.proofs.ReadLaws.{too_long, plain, not_ascii}
-use borrow.Author.Rules.{rules}
 use Rattle.texts.proofs.read_text.Goals as goal
 
 pub returns-then-text-gt65536 : goal.returns-then-text-gt65536
