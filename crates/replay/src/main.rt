@@ -9,6 +9,8 @@ mod outputs;
 mod stored;
 mod tally;
 
-fn main() {
-    files::replay_all();
+use std::io;
+
+fn main(rt: HostRuntime) -> io::Result<()> {
+    files::replay_all(&rt)
 }

@@ -2,6 +2,7 @@
 ghost use Rattle.std.specs.Prelude.{◌≡◌};
 ghost use Rattle.replay.specs.Counted.{after};
 
+use std::io;
 use std::num::wrapping_add_u64;
 
 #[derive(Clone, Copy)]
@@ -71,23 +72,23 @@ pub fn stop(tally: Tally) -> Step {
 }
 
 // A case that is cut short or larger than the buffers counts as one that differs, and is the last one.
-pub fn damaged(tally: Tally) -> Step {
-    io::write_all(1, b"a case is cut short or too large\n");
-    stop(tally.case().call(false))
+pub fn damaged(rt: &impl Print, tally: Tally) -> io::Result<Step> {
+    rt.println("a case is cut short or too large")?;
+    Ok(stop(tally.case().call(false)))
 }
 
-fn number(n: u64, after: &[u8]) {
-    io::print_decimal(1, n);
-    io::write_all(1, after);
+fn number(rt: &impl Print, n: u64, after: &str) -> io::Result<()> {
+    print!(rt; "{n}{after}")
 }
 
-pub fn write(label: &[u8], t: Tally) {
-    io::write_all(1, label);
-    number(t.cases, b" cases, ");
-    number(t.calls, b" calls, ");
-    number(t.differ, b" differ\n");
+pub fn write(rt: &impl Print, label: &str, t: Tally) -> io::Result<()> {
+    rt.print(label)?;
+    number(rt, t.cases, " cases, ")?;
+    number(rt, t.calls, " calls, ")?;
+    number(rt, t.differ, " differ\n")?;
     if 0 < t.differ {
-        io::write_all(1, b"first difference in case ");
-        number(t.first, b"\n");
+        rt.print("first difference in case ")?;
+        number(rt, t.first, "\n")?;
     }
+    Ok(())
 }
