@@ -15,7 +15,7 @@ use Rattle.grammar.specs.Depth.{level, depth, deepest}
 use Rattle.forms.specs.Tests.{◌and◌}
 use Rattle.forms.specs.Kinds.{Entry, none, rows, find, row_for}
 use Rattle.forms.specs.Forms.{stands, good, children, next, rest, of_sort, of_sorts}
-use Rattle.forms.specs.Lists.{first_is, kinds, kinds_all, MacroArg}
+use Rattle.forms.specs.Lists.{first_is, kinds, kinds_all, macro_arg}
 use Rattle.forms.specs.Depth.{is_level, level_of, depths, depths_all, too_deep}
 use Rattle.forms.proofs.TestLaws.{both}
 use Rattle.closed.proofs.Rows.{PlainTree, plain, PlainTrees, no_tree, and_tree}
@@ -40,10 +40,10 @@ absent_first (nor_here e p) = rw e (ap suc (absent_first p))
 mutual
   unfolding kinds
 
-  plain-tree : {s : Input} {x : Tree} → PlainTree s x → Absent MacroArg (kinds x)
+  plain-tree : {s : Input} {x : Tree} → PlainTree s x → Absent macro_arg (kinds x)
   plain-tree (plain e p) = nor_here e.no_arg (plain-trees p)
 
-  pub plain-trees : {s : Input} {xs : Trees} → PlainTrees s xs → Absent MacroArg (kinds_all xs)
+  pub plain-trees : {s : Input} {xs : Trees} → PlainTrees s xs → Absent macro_arg (kinds_all xs)
   plain-trees no_tree = nowhere
   plain-trees (and_tree p q) = absent_append (plain-tree p) (plain-trees q)
 

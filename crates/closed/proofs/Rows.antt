@@ -1,4 +1,4 @@
--- Trees that are of their sorts, hold no MacroArg and no empty name and fit the widths of the fields, one by one and in rows; and how a node
+-- Trees that are of their sorts, hold no macro_arg and no empty name and fit the widths of the fields, one by one and in rows; and how a node
 -- is made of its children. Assumes nothing.
 use Prim.Native.Nat.{ℕ, suc, ◌+◌, ◌-◌, ◌%◌, ◌≤◌, ◌<◌}
 use native.Mathlib.Omega.{arith}
@@ -19,7 +19,7 @@ use Rattle.forms.specs.declared.Row as row
 use Rattle.forms.specs.Tests.{◌and◌}
 use Rattle.forms.specs.Kinds.{none, tuple_field, row_for}
 use Rattle.forms.specs.Forms.{placed, one, run, some, singles, leading, sorts_of, position_ok, words_ok, stands, of_sort, of_sorts, AllOfKind}
-use Rattle.forms.specs.Lists.{MacroArg}
+use Rattle.forms.specs.Lists.{macro_arg}
 use Rattle.forms.proofs.TestLaws.{both, true_and}
 use Rattle.forms.proofs.Exact.{length-one}
 use Rattle.closed.proofs.Lent.{Lent}
@@ -32,9 +32,9 @@ pub record Narrow (h : Head) : Type 0 where
   pub word1 : h.word1 < 18446744073709551616
   pub word2 : h.word2 < 18446744073709551616
 
--- no MacroArg, no Ident without a name, and what it holds has the widths of its fields
+-- no macro_arg, no Ident without a name, and what it holds has the widths of its fields
 pub record Plain (s : Input) (h : Head) : Type 0 where
-  pub no_arg : eqb h.kind MacroArg ≡ false
+  pub no_arg : eqb h.kind macro_arg ≡ false
   pub named : h.kind ≡ kind_identifier → Nonempty h.word1
   pub kind : h.kind < 256
   pub flags : h.flags < 256
@@ -154,7 +154,7 @@ unfoldable pub headed : ℕ → ℕ → Head → Bool
 headed t k h =
     ltb 0 k and (eqb k (placed (row_for h.kind h.flags).sort h.word1) and (position_ok (row_for h.kind h.flags).position h.pos
     and (words_ok t (row_for h.kind h.flags).words h.word1 h.word2
-    and (pick (eqb h.kind MacroArg) false true and (pick (eqb h.kind kind_identifier) (ltb 0 (h.word1 % 4294967296)) true
+    and (pick (eqb h.kind macro_arg) false true and (pick (eqb h.kind kind_identifier) (ltb 0 (h.word1 % 4294967296)) true
     and (ltb h.kind 256 and leb (row_for h.kind h.flags).flags 256))))))
 
 no_arg : (b : Bool) → pick b false true ≡ true → b ≡ false
@@ -181,7 +181,7 @@ module _ (s : Input) (k : ℕ) (h : Head) (n : Lent s → Narrow h) (e : headed 
       let p = both (both (both (both (both e).1).1).1).1 in
       let m = both p.1 in
       let q = both m.1 in
-      record { no_arg = no_arg (eqb h.kind MacroArg) p.0; named = name_of h.kind h.word1 (eqb h.kind kind_identifier) refl m.0; kind = ltb-true h.kind 256 q.0; flags = omega (arith, leb-true (row_for h.kind h.flags).flags 256 q.1); narrow = n }
+      record { no_arg = no_arg (eqb h.kind macro_arg) p.0; named = name_of h.kind h.word1 (eqb h.kind kind_identifier) refl m.0; kind = ltb-true h.kind 256 q.0; flags = omega (arith, leb-true (row_for h.kind h.flags).flags 256 q.1); narrow = n }
 
   fits : {xs : Trees} → Children s (row_for h.kind h.flags) xs → Fits s k (node h xs)
   unfolding of_sort

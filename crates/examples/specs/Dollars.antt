@@ -14,9 +14,9 @@ cut p n = rec kind_identifier 0 0 p (p + 1) n 0
 abbrev constant : ℕ → ℕ → List ℕ
 constant p n = node kind_pattern_const_prim 1 p ++ cut p n
 
--- `(extractor (p_records) $) (p_records)`: the definition as the crate reads it, and the pattern
+-- `(extractor (P) $) (P)`: the definition as the crate reads it, and the pattern
 unfoldable pub p_source : List ℕ
-p_source = bytes "(extractor (p_records) $) (p_records)"
+p_source = bytes "(extractor (P) $) (P)"
 
 unfoldable pub p_records : List ℕ
 p_records = node kind_extractor 2 11 ++ ident 12 1 ++ constant 15 0

@@ -55,10 +55,10 @@ sheet =
     ++ rec 41 0 1 12 0 0 0
     ++ rec 24 0 0 12 12 1 0
 
--- ---- `(b_records y @ _ x @ (C y) x)`: the pattern, the parameters x and y, the template
+-- ---- `(B y @ _ x @ (C y) x)`: the pattern, the parameters x and y, the template
 
 unfoldable pub text : List ℕ
-text = bytes "(b_records y @ _ x @ (C y) x)"
+text = bytes "(B y @ _ x @ (C y) x)"
 
 unfoldable pub b_records : List ℕ
 b_records =
@@ -70,7 +70,7 @@ b_records =
 unfoldable pub xy : List ℕ
 xy = ident 9 1 ++ ident 3 1
 
--- b_records with MacroArg 1, x bound over C of MacroArg 1, MacroArg 0
+-- B with MacroArg 1, x bound over C of MacroArg 1, MacroArg 0
 unfoldable pub b_made : List ℕ
 b_made =
     node kind_pattern_term 4 0 ++ ident 1 1
@@ -128,7 +128,7 @@ table =
     ∷ (read "(spec" (lparen 0 ++ sym 1 4) gives 27 at 1)
     -- the rule whose records the document prints
     ∷ (read "(rule (A x) y)" (lparen 0 ++ sym 1 4 ++ lparen 6 ++ sym 7 1 ++ sym 9 1 ++ rparen 10 ++ sym 12 1 ++ rparen 13) gives accepts 7 [] sheet)
-    -- parameters x, y: b_records with MacroArg 1, x bound over C of MacroArg 1, MacroArg 0; with one pattern given, 5 at 2
+    -- parameters x, y: B with MacroArg 1, x bound over C of MacroArg 1, MacroArg 0; with one pattern given, 5 at 2
     ∷ (isle_make_template text b_records xy 16 gives accepts 9 [] b_made)
     ∷ (isle_substitute text b_made (var 16) 16 gives 5 at 2)
     -- `(Q z)` opens to 11 records; space for 10 gives 6

@@ -70,7 +70,7 @@ module _ (s : Input) where
   pub iflets_steady : Steady s (many (size s) (no_iflet s) (parse_iflet_or_expr s))
   iflets_steady = row_steady s (no_iflet s) (parse_iflet_or_expr s) either_item
 
--- ---- one more if_let
+-- ---- one more if-let
 
 no_more : (end : ℕ) → is_lparen (past_last end) ≡ false
 unfolding is_lparen

@@ -95,7 +95,7 @@ table =
     ∷ (case expr (tok 5 0 0 0) (64 ∷ []) 1 (refuse (refusal 26 0 0)))
     -- `(if x)`
     ∷ (case iflet (tok 1 0 0 0 ++ sym 1 2 ++ sym 4 1 ++ tok 2 5 0 0) (40 ∷ 105 ∷ 102 ∷ 32 ∷ 120 ∷ 41 ∷ []) 6 (accept (one (node (head kind_if_let 0 4 0 0) ((node (head kind_pattern_wildcard 0 4 0 0) ∅) ▸ one (node (head kind_expr_var 0 4 0 0) (one (id 4 1)))))) 4))
-    -- `(if_let _ y)`
+    -- `(if-let _ y)`
     ∷ (case iflet (tok 1 0 0 0 ++ sym 1 6 ++ sym 8 1 ++ sym 10 1 ++ tok 2 11 0 0) (40 ∷ 105 ∷ 102 ∷ 45 ∷ 108 ∷ 101 ∷ 116 ∷ 32 ∷ 95 ∷ 32 ∷ 121 ∷ 41 ∷ []) 12 (accept (one (node (head kind_if_let 0 8 0 0) ((node (head kind_pattern_wildcard 0 8 0 0) ∅) ▸ one (node (head kind_expr_var 0 10 0 0) (one (id 10 1)))))) 5))
     -- `(iff x)`
     ∷ (case iflet (tok 1 0 0 0 ++ sym 1 3 ++ sym 5 1 ++ tok 2 6 0 0) (40 ∷ 105 ∷ 102 ∷ 102 ∷ 32 ∷ 120 ∷ 41 ∷ []) 7 (accept (one (node (head kind_expr_term 0 0 0 0) (id 1 3 ▸ one (node (head kind_expr_var 0 5 0 0) (one (id 5 1)))))) 4))

@@ -55,7 +55,7 @@ parse_iflet s = parent s kind_if_let 0 (parse_pattern s 64 ⊳ parse_expr s 64)
 unfoldable pub parse_iflet_if : Input → Reader
 parse_iflet_if s = parent s kind_if_let 0 (parent s kind_pattern_wildcard 0 nothing ⊳ parse_expr s 64)
 
--- an if_let, or the expression that ends a rule; one in parentheses is read as any other
+-- an if-let, or the expression that ends a rule; one in parentheses is read as any other
 unfoldable pub parse_iflet_or_expr : Input → Reader
 parse_iflet_or_expr s =
     if_next s is_lparen
@@ -66,7 +66,7 @@ parse_iflet_or_expr s =
     (parse_expr s 64)))
     (parse_expr s 64)
 
--- whether the if-lets of a rule end at token i: neither `(if_let` nor `(if` stands there
+-- whether the if-lets of a rule end at token i: neither `(if-let` nor `(if` stands there
 unfoldable pub no_iflet : Input → ℕ → Bool
 no_iflet s i =
     pick (is_lparen (peek s i))

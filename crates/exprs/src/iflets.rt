@@ -13,7 +13,7 @@ use steps::{
 };
 use trees::Head;
 
-// After `if_let`: a pattern and an expression.
+// After `if-let`: a pattern and an expression.
 fn parse_iflet(tokens: &[u8], text: &[u8], end: u32, out: &mut [u8], p: Parsed) -> Parsed
     requires { Ready 1 (input tokens.now text.now end) p }
     ensures { Chained (parse_iflet (input tokens.now text.now end)) p out.old out.new result }
@@ -35,7 +35,7 @@ fn parse_iflet_if(tokens: &[u8], text: &[u8], end: u32, out: &mut [u8], p: Parse
     close_at(tokens, end, out, p, Head::IF_LET, 0, q)
 }
 
-// An if_let, or the expression that ends a rule.
+// An if-let, or the expression that ends a rule.
 pub fn parse_iflet_or_expr(
     tokens: &[u8],
     text: &[u8],
@@ -49,7 +49,7 @@ pub fn parse_iflet_or_expr(
     let t = next_token(tokens, end, p);
     let u = second_token(tokens, end, p);
     if t.is_lparen() {
-        if u.is_word(text, b"if_let") {
+        if u.is_word(text, b"if-let") {
             return parse_iflet_parens(tokens, text, end, out, p);
         }
         if u.is_word(text, b"if") {
@@ -65,7 +65,7 @@ fn parse_iflet_parens(tokens: &[u8], text: &[u8], end: u32, out: &mut [u8], p: P
     ensures { Chained (expect-lparen (input tokens.now text.now end) ⊳ expect-word (input tokens.now text.now end) word_if_let ⊳ parse_iflet (input tokens.now text.now end) ⊳ expect-rparen (input tokens.now text.now end)) p out.old out.new result }
 {
     let open = expect_lparen(tokens, end, p);
-    let word = expect_word(tokens, text, end, open, b"if_let");
+    let word = expect_word(tokens, text, end, open, b"if-let");
     let q = parse_iflet(tokens, text, end, out, word);
     expect_rparen(tokens, end, q)
 }
@@ -80,7 +80,7 @@ fn parse_if_parens(tokens: &[u8], text: &[u8], end: u32, out: &mut [u8], p: Pars
     expect_rparen(tokens, end, q)
 }
 
-// Whether one more if_let stands at p.
+// Whether one more if-let stands at p.
 fn more_iflets(tokens: &[u8], text: &[u8], end: u32, p: Parsed) -> bool
     requires { Near p }
     ensures { result ≡ goes_on (no_iflet (input tokens.now text.now end)) p }
@@ -88,7 +88,7 @@ fn more_iflets(tokens: &[u8], text: &[u8], end: u32, p: Parsed) -> bool
     let t = next_token(tokens, end, p);
     let u = second_token(tokens, end, p);
     if t.is_lparen() {
-        if u.is_word(text, b"if_let") {
+        if u.is_word(text, b"if-let") {
             return true;
         }
         return u.is_word(text, b"if");

@@ -19,7 +19,7 @@ use tokens::Token;
 use trees::Head;
 
 // The expression at p, of at most this depth.
-#[cycle(parse_expr_parse_expr_inner_parens_parse_exprs_parse_let_parse_letdef_parse_letdefs)]
+#[cycle(expr)]
 pub fn parse_expr(
     tokens: &[u8],
     text: &[u8],
@@ -65,7 +65,7 @@ pub fn parse_expr(
 }
 
 // `(let ..)` or `(term ..)`, the `(` standing at p as t; the expressions inside are of at most this depth.
-#[cycle(parse_expr_parse_expr_inner_parens_parse_exprs_parse_let_parse_letdef_parse_letdefs)]
+#[cycle(expr)]
 fn parse_expr_inner_parens(
     tokens: &[u8],
     text: &[u8],
@@ -92,7 +92,7 @@ fn parse_expr_inner_parens(
 }
 
 // The inside of a let: `let (definitions) body)`.
-#[cycle(parse_expr_parse_expr_inner_parens_parse_exprs_parse_let_parse_letdef_parse_letdefs)]
+#[cycle(expr)]
 fn parse_let(
     tokens: &[u8],
     text: &[u8],
@@ -113,7 +113,7 @@ fn parse_let(
 }
 
 // `(name type value)`
-#[cycle(parse_expr_parse_expr_inner_parens_parse_exprs_parse_let_parse_letdef_parse_letdefs)]
+#[cycle(expr)]
 fn parse_letdef(
     tokens: &[u8],
     text: &[u8],
@@ -134,7 +134,7 @@ fn parse_letdef(
 }
 
 // Let definitions up to a `)`, which is left.
-#[cycle(parse_expr_parse_expr_inner_parens_parse_exprs_parse_let_parse_letdef_parse_letdefs)]
+#[cycle(expr)]
 fn parse_letdefs(
     tokens: &[u8],
     text: &[u8],
@@ -154,7 +154,7 @@ fn parse_letdefs(
 }
 
 // Expressions up to a `)`, which is left.
-#[cycle(parse_expr_parse_expr_inner_parens_parse_exprs_parse_let_parse_letdef_parse_letdefs)]
+#[cycle(expr)]
 fn parse_exprs(
     tokens: &[u8],
     text: &[u8],

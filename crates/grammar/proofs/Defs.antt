@@ -7,18 +7,18 @@ use mathlib.Core.Bool.{Bool, true, false}
 use lib.Dec.{leb, eqb}
 use borrow.Author.Tests.{leb-true, leb-false, eqb-false}
 use Rattle.trees.specs.Choice.{pick}
-use Rattle.trees.specs.Tree.{Trees, ∅, ◌⧺◌, count}
+use Rattle.trees.specs.Tree.{node, head, ◌▸◌, Trees, ∅, ◌⧺◌, count}
 use Rattle.trees.specs.Ast.{kind_decl, kind_attr, kind_attr_kind_chain, kind_attr_kind_priority, kind_attr_kind_tag, kind_extern_constructor, kind_extern_extractor, kind_extern_const, kind_extractor, kind_converter}
 use Rattle.words.specs.Bytes.{same_bytes}
 use Rattle.tokens.specs.declared.Token.{Token}
 use Rattle.tokens.specs.Ident.{ident_refusal}
-use Rattle.tokens.specs.Input.{Input, peek, size}
+use Rattle.tokens.specs.Input.{pos_at, Input, peek, size}
 use Rattle.steps.specs.Keywords.{word_pragma, word_type, word_decl, word_attr, word-rule, word-extractor, word_extern, word_convert, word_pure, word_multi, word_partial, word-rec, word_veri, word_tag, word_chain, word-priority, word_constructor, word_infallible, word_const}
 use Rattle.steps.specs.Outcome.{Reader, accept, ate, row, pragma_refusal}
 use Rattle.parser.specs.Defs as defs
 use Rattle.parser.specs.Defs.{decl_flags, decl_modifiers, decl_names, parse_decl, parse_attr_kind_veri, parse_attr_kind, parse_attr, parse_extern, etor_head, parse_etor, parse_converter, parse_pragma, is_uncovered, other_def, rest_def, parse_def, parse_defs}
-use Rattle.grammar.specs.Lexical.{Open, Close, Word, one, name_at, spelling}
-use Rattle.grammar.specs.Grammar.{Optional, rule, definition, decl, attr, attribute, extern, converter, list, Gram, empty, cons, d_type, d_decl, d_attr, d_extern, d_extractor, d_rule, d_convert, c_decl, a_attr, a_chain, a_priority, a_tag, x_constructor, x_extractor, x_const, x_template, k_convert}
+use Rattle.grammar.specs.Lexical.{Name, Open, Close, Word, one, name_at, spelling}
+use Rattle.grammar.specs.Grammar.{name, Optional, rule, definition, decl, attr, attribute, extern, converter, list, Gram, empty, cons, d_type, d_decl, d_attr, d_extern, d_extractor, d_rule, d_convert, c_decl, a_attr, a_chain, a_priority, a_tag, x_constructor, x_extractor, x_const, x_template, k_convert}
 use Rattle.grammar.specs.Depth.{deepest}
 use Rattle.grammar.specs.Nesting.{b_definitions, b_extractor, b_rule, b_template, Read, Deep, inside}
 use Rattle.grammar.proofs.Exact.{never, Exact, Tests, Nowhere, after, if_so, if_not, Among, in_item, past_item, Judges, One, token, then, up, over, holds, fails, Many, done, next, exact_iff, exact_to, exact_many, same, no_refusal}
@@ -57,10 +57,17 @@ module _ (s : Input) where
   unfolding parse_decl decl_names
   decl_shape = flags s kind_decl (decl_flags s) (known exact_decl_modifiers ⊳⊳ (known (ident s) ⊳· lparen s ⊳⊳ known (names s 64) ⊳· rparen s ⊳⊳ known (ident s)))
 
+  decl_read : {i a b c d p m q r n l j : ℕ} {us ts vs : Trees}
+      → Optional s word_pure 1 i a p → Optional s word_multi 2 a b m → Optional s word_partial 4 b c q → Optional s word-rec 8 c d r
+      → One (Name s) (λ k. one (name_at s k)) d us n → Open s n → Shut s (list name) 64 (n + 1) ts l → Close s l → One (Name s) (λ k. one (name_at s k)) (l + 1) vs j
+      → Read s decl 64 i (node (head kind_decl (decl_flags s i) (pos_at s i) 0 0) ((us ⧺ ts) ⧺ vs) ▸ ∅) j
+  unfolding deepest ◌⧺◌
+  decl_read {l = l} {ts = ts} x y z w (token h) o ns c (token u) =
+      rw (decl_flags_lem x y z w) (record { derives = c_decl x y z w h o ns.derives c u; shallow = omega (arith, ns.shallow, deepest_⧺ ts (one (name_at s (l + 1)))) })
+
   decl_there : {i j : ℕ} {ts : Trees} → decl_shape.Means i ts j → Read s decl 64 i ts j
   unfolding parse_decl decl_names deepest ◌⧺◌
-  decl_there (over (then (modifiers x y z w) (then {m = m} (up (then {vs = ts} (up (token h) o) ns) c) (token u)))) =
-      rw (decl_flags_lem x y z w) (record { derives = c_decl x y z w h o ns.derives c u; shallow = omega (arith, ns.shallow, deepest_⧺ ts (one (name_at s m))) })
+  decl_there (over (then (modifiers x y z w) (then (up (then (up t o) ns) c) u))) = decl_read x y z w t o ns c u
 
   decl_back : {i j : ℕ} {ts : Trees} → Gram s decl i j ts → deepest ts ≤ 64 → decl_shape.Means i ts j
   unfolding parse_decl decl_names deepest ◌⧺◌
@@ -90,6 +97,7 @@ module _ (s : Input) where
   attribute_there (holds v (up (then (up (token o) w) (fails n (holds x (over (token y))))) c)) = record { derives = a_priority o w y c; shallow = omega arith }
   attribute_there (fails n (holds v (up (then (up (token o) w) (over (token h))) c))) = record { derives = a_tag o w h c; shallow = omega arith }
   attribute_there (fails n (fails m (then _ y))) = absurd (never y)
+  attribute_there {i = i} (holds v (up {m = m} (then {vs = vs} (up (token o) w) (fails n (fails _ x30))) c)) = elim x30 [ ]
 
   attribute_back : {i j : ℕ} {ts : Trees} → Gram s attribute i j ts → attribute_shape.Means i ts j
   unfolding parse_attr_kind parse_attr_kind_veri ◌⧺◌ same_bytes
@@ -108,9 +116,14 @@ module _ (s : Input) where
   unfolding parse_attr
   attr_shape = flags s kind_attr (λ i. ate s word-rule i - i) (known (exact_eat s word-rule) ⊳⊳ known (ident s) ⊳⊳ known attributes)
 
+  attr_read : {i a f m j : ℕ} {us vs : Trees} → Optional s word-rule 1 i a f → One (Name s) (λ k. one (name_at s k)) a us m → Shut s (list attribute) 64 m vs j
+      → Shut s attr 64 i (node (head kind_attr (ate s word-rule i - i) (pos_at s i) 0 0) (us ⧺ vs) ▸ ∅) j
+  unfolding deepest ◌⧺◌
+  attr_read x (token h) r = rw (one-flag x) (record { derives = a_attr x h r.derives; shallow = omega (arith, r.shallow); shuts = r.shuts })
+
   attr_there : {i j : ℕ} {ts : Trees} → attr_shape.Means i ts j → Shut s attr 64 i ts j
   unfolding parse_attr deepest ◌⧺◌
-  attr_there (over (then (then (eats x) (token h)) r)) = rw (one-flag x) (record { derives = a_attr x h r.derives; shallow = omega (arith, r.shallow); shuts = r.shuts })
+  attr_there (over (then (then (eats x) t) r)) = attr_read x t r
 
   attr_back : {i j : ℕ} {ts : Trees} → Gram s attr i j ts → deepest ts ≤ 64 → Close s j → attr_shape.Means i ts j
   unfolding parse_attr deepest ◌⧺◌
@@ -130,11 +143,18 @@ module _ (s : Input) where
       (nexts (words s word_const) (known (word s word_const) ⊳⊳ parents s kind_extern_const 0 (known (constant s) ⊳⊳ known (ident s)))
       (refuses s 22 (omega arith) (omega arith) (λ z. omega arith))))
 
+  extractor_read : {i a f m j : ℕ} {us vs : Trees} → Word s word-extractor i → Optional s word_infallible 1 (i + 1) a f
+      → One (Name s) (λ k. one (name_at s k)) a us m → One (Name s) (λ k. one (name_at s k)) m vs j
+      → Read s extern 64 i (node (head kind_extern_extractor (ate s word_infallible (i + 1) - (i + 1)) (pos_at s i) 0 0) (us ⧺ vs) ▸ ∅) j
+  unfolding deepest ◌⧺◌
+  extractor_read w x (token h) (token u) = rw (one-flag x) (record { derives = x_extractor w x h u; shallow = omega arith })
+
   extern_there : {i j : ℕ} {ts : Trees} → extern_shape.Means i ts j → Read s extern 64 i ts j
   unfolding parse_extern deepest ◌⧺◌
   extern_there (holds v (over (then (then (token w) (token h)) (token u)))) = record { derives = x_constructor w h u; shallow = omega arith }
-  extern_there (fails a (holds v (over (then (then (then (token w) (eats x)) (token h)) (token u))))) = rw (one-flag x) (record { derives = x_extractor w x h u; shallow = omega arith })
+  extern_there (fails a (holds v (over (then (then (then (token w) (eats x)) t) u)))) = extractor_read w x t u
   extern_there (fails a (fails b (holds v (then (token w) (over (then (token h) (token u))))))) = record { derives = x_const w h u; shallow = omega arith }
+  extern_there {i = i} {j = j} {ts = ts} (fails a (fails b (fails _ x12))) = elim x12 [ ]
 
   extern_back : {i j : ℕ} {ts : Trees} → Gram s extern i j ts → extern_shape.Means i ts j
   unfolding parse_extern ◌⧺◌ same_bytes
@@ -249,6 +269,11 @@ module _ (s : Input) where
   def_deep (if_not _ (if_not _ (if_not _ (if_not _ (if_so v (after (up (token o) w) d)))))) = in-rule o w d
   def_deep (if_not _ (if_not _ (if_not _ (if_not _ (if_not _ (if_so v (after (up (token o) w) (after (up (then (then (token q) (token h)) ns) c) n)))))))) =
       inside (b_extractor o w (b_template q h ns.derives c)) n
+  def_deep {i = i} {k = k} (if_so _ x'') = elim x'' [ ]
+  def_deep {i = i} {k = k} (if_not _ (if_so _ x5)) = elim x5 [ ]
+  def_deep {i = i} {k = k} (if_not _ (if_not _ (if_so _ x8))) = elim x8 [ ]
+  def_deep {i = i} {k = k} (if_not _ (if_not _ (if_not _ (if_so _ x11)))) = elim x11 [ ]
+  def_deep {i = i} {k = k} (if_not _ (if_not _ (if_not _ (if_not _ (if_not _ (if_not _ x16)))))) = elim x16 [ ]
 
   exact_def : Exact s (Deep s definition 64) (parse_def s) (Read s definition 64)
   exact_def = exact_to (λ i k x. def_deep x) (exact_iff def_shape.reads.exact (λ i ts j r. def_there r) (λ i ts j r. def_back r.derives r.shallow))

@@ -242,8 +242,11 @@ exact_up {s} {D} {f} {g} {R} {P} r q = exact_iff (exact_to in-first (exact_then 
     in-first i k (first x) = x
     in-first i k (second (after x y)) = absurd (nowhere y)
 
+    ended : (i m : ℕ) (us vs : Trees) (j : ℕ) → R i us m → One P (λ _. ∅) m vs j → Up R P i (us ⧺ vs) j
+    ended i m us vs j x (token h) = rw (⧺-none us) (up x h)
+
     on : (i : ℕ) (ts : Trees) (j : ℕ) → Then R (One P (λ _. ∅)) i ts j → Up R P i ts j
-    on i ts j (then {us = us} x (token h)) = rw (⧺-none us) (up x h)
+    on i ts j (then {us = us} {vs = vs} {m = m} {j = k} x y) = ended i m us vs k x y
 
     back : (i : ℕ) (ts : Trees) (j : ℕ) → Up R P i ts j → Then R (One P (λ _. ∅)) i ts j
     back i ts j (up {us = us} {m = m} x h) = subst (λ (z : Trees). Then R (One P (λ _. ∅)) i z (m + 1)) (⧺-none us) (then x (token h))

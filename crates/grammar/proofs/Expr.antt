@@ -74,6 +74,7 @@ module _ (s : Input) (d : ℕ) (ih : Exact s (Nested s expression d) (parse_expr
   there (fails a (fails b (fails c (fails e (holds k (over (token h))))))) =
       record { derives = e_var (record { named = h; no_dollar = b; no_true = c; no_false = e }); shallow = omega arith }
   there (fails a (fails b (fails c (fails e (fails f (holds h (token _))))))) = record { derives = e_integer h; shallow = omega arith }
+  there {i = i} {j = j} {ts = ts} (fails a (fails b (fails c (fails e (fails f (fails _ x21)))))) = elim x21 [ ]
 
   back : {i j : ℕ} {ts : Trees} → Gram s expression i j ts → deepest ts ≤ suc d → shape.reads.Means i ts j
   unfolding expr_in parse_expr_inner_parens let_inside deepest ◌⧺◌ same_bytes
@@ -94,6 +95,7 @@ module _ (s : Input) (d : ℕ) (ih : Exact s (Nested s expression d) (parse_expr
   inside (if_so o (if_so w (after (token p) (first (after (up (token v) q) (in_row ds z (after (then (then (token u) (token h)) (token y)) n))))))) = inward (in-letdef o v q ds u h y) n
   inside (if_so o (if_so w (after (token p) (second (after (up (then (up (token v) q) ds) c) n))))) = inward (in-let o v q (record { derives = ds.derives; shallow = ds.shallow }) c) n
   inside (if_so o (if_not m (after (then (token p) (token h)) (in_row ps z n)))) = inward (in-expression o h m ps z) n
+  inside {i = i} {k = k} (if_not _ x'') = elim x'' [ ]
 
 pub exact_expr : (s : Input) (d : ℕ) → Exact s (Nested s expression d) (parse_expr s d) (Read s expression d)
 unfolding parse_expr

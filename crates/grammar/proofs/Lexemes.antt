@@ -14,7 +14,7 @@ use Rattle.trees.specs.Ast.{ident_node}
 use Rattle.words.specs.Bytes.{same_bytes}
 use Rattle.words.proofs.SameLaws.{same_refl, same_eq}
 use Rattle.tokens.specs.Token.{is_lparen, is_rparen, is_symbol, is_int, is_at, is_refused, is_const, is_word}
-use Rattle.tokens.specs.ident_node.{starts, all_go_on, ident_refusal}
+use Rattle.tokens.specs.Ident.{starts, all_go_on, ident_refusal}
 use Rattle.tokens.specs.Input.{Input, peek, pos_at, size}
 use Rattle.tokens.proofs.TokenLaws.{kind-inside}
 use Rattle.steps.specs.declared.Refusal.{Refusal}

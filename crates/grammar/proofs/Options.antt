@@ -96,8 +96,8 @@ ends_at zero no_more z h = refl
 ends_at zero (an_extern w m) z h = absurd (omega (arith, word-there w))
 ends_at zero (a_nodebug w m) z h = absurd (omega (arith, word-there w))
 ends_at {s} (suc f) no_more z h = rw (is_false (words s word_extern) (λ w. z w.symbol), is_false (words s word_nodebug) (λ w. z w.symbol))
-ends_at {s} (suc f) (an_extern w m) z h = rw (is_true (words s word_extern) w) (ends_at f m z (omega arith))
-ends_at {s} (suc f) (a_nodebug w m) z h = rw (is_false (words s word_extern) (λ v. one_word w v refl), is_true (words s word_nodebug) w) (ends_at f m z (omega arith))
+ends_at {s = s} {i = i} {j = j} {n = n} (suc f) (an_extern {e = e} w m) z h = rw (is_true (words s word_extern) w) (ends_at {i = i + 1} f m z (omega arith))
+ends_at {s = s} {i = i} {j = j} {e = e} (suc f) (a_nodebug {n = n} w m) z h = rw (is_false (words s word_extern) (λ v. one_word w v refl), is_true (words s word_nodebug) w) (ends_at {i = i + 1} f m z (omega arith))
 
 flags-small : {s : Input} {i j e n : ℕ} → Modifiers s i j e n → (e ≤ 1) × (n ≤ 2)
 flags-small no_more = (omega arith, omega arith)
@@ -110,11 +110,11 @@ flags-at zero a b x y no_more z h = omega arith
 flags-at zero a b x y (an_extern w m) z h = absurd (omega (arith, word-there w))
 flags-at zero a b x y (a_nodebug w m) z h = absurd (omega (arith, word-there w))
 flags-at {s} (suc f) a b x y no_more z h = rw (is_false (words s word_extern) (λ w. z w.symbol), is_false (words s word_nodebug) (λ w. z w.symbol)) (omega arith)
-flags-at {s} (suc f) a b x y (an_extern w m) z h =
-    let l = flags-small m in rw (is_true (words s word_extern) w) (omega (arith, l.0, flags-at f 1 b (omega arith) y m z (omega arith)))
-flags-at {s} (suc f) a b x y (a_nodebug w m) z h =
+flags-at {s = s} {i = i} {j = j} {n = n} (suc f) a b x y (an_extern {e = e} w m) z h =
+    let l = flags-small m in rw (is_true (words s word_extern) w) (omega (arith, l.0, flags-at {i = i + 1} f 1 b (omega arith) y m z (omega arith)))
+flags-at {s = s} {i = i} {j = j} {e = e} (suc f) a b x y (a_nodebug {n = n} w m) z h =
     let l = flags-small m in
-    rw (is_false (words s word_extern) (λ v. one_word w v refl), is_true (words s word_nodebug) w) (omega (arith, l.1, flags-at f a 2 x (omega arith) m z (omega arith)))
+    rw (is_false (words s word_extern) (λ v. one_word w v refl), is_true (words s word_nodebug) w) (omega (arith, l.1, flags-at {i = i + 1} f a 2 x (omega arith) m z (omega arith)))
 
 pub type_flags : {s : Input} {i j e n : ℕ} → Modifiers s i j e n → (Symbol s j → ⊥) → modifier_flags s (size s) 0 0 i ≡ e + n
 type_flags {s} m z = omega (arith, flags-at (size s) 0 0 (omega arith) (omega arith) m z (omega arith))

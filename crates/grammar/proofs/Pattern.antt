@@ -102,6 +102,7 @@ module _ (s : Input) (d : ℕ) (ih : Exact s (Nested s pattern d) (parse_pattern
       record { derives = p_and o w r.derives z; shallow = omega (arith, r.shallow); stops = shut }
   there (fails a (fails b (fails c (fails e (fails f (fails g (holds k (fails n (over (up (then (then (token o) (token h)) r) z)))))))))) =
       record { derives = p_term o h n r.derives z; shallow = omega (arith, r.shallow); stops = shut }
+  there {i = i} {j = j} {ts = ts} (fails a (fails b (fails c (fails e (fails f (fails g (fails _ x24))))))) = elim x24 [ ]
 
   back : {i j : ℕ} {ts : Trees} → Gram s pattern i j ts → deepest ts ≤ suc d → (one_ends ts ≡ true → At s j → ⊥) → shape.reads.Means i ts j
   unfolding pattern_in compound deepest one_ends ◌⧺◌ same_bytes
@@ -132,6 +133,13 @@ module _ (s : Input) (d : ℕ) (ih : Exact s (Nested s pattern d) (parse_pattern
       inward (in-bind (record { variable = record { named = h; no_dollar = b; no_true = e; no_false = f }; no_wildcard = c }) u) n
   inside (if_not a (if_not b (if_not c (if_not e (if_not f (if_not g (if_so k (if_so t (after (up (token o) w) (in_row ps z n)))))))))) = inward (in_and o w ps z) n
   inside (if_not a (if_not b (if_not c (if_not e (if_not f (if_not g (if_so k (if_not m (after (then (token o) (token h)) (in_row ps z n)))))))))) = inward (in-pattern o h m ps z) n
+  inside {i = i} {k = k} (if_so _ x'') = elim x'' [ ]
+  inside {i = i} {k = k} (if_not a (if_so _ x4)) = elim x4 [ ]
+  inside {i = i} {k = k} (if_not a (if_not b (if_so _ x6))) = elim x6 [ ]
+  inside {i = i} {k = k} (if_not a (if_not b (if_not c (if_so _ x8)))) = elim x8 [ ]
+  inside {i = i} {k = k} (if_not a (if_not b (if_not c (if_not e (if_so _ x10))))) = elim x10 [ ]
+  inside {i = i} (if_not a (if_not b (if_not c (if_not e (if_not f (if_so k (if_not _ x13))))))) = elim x13 [ ]
+  inside {i = i} {k = k} (if_not a (if_not b (if_not c (if_not e (if_not f (if_not g (if_not _ x14))))))) = elim x14 [ ]
 
 pub exact_pattern : (s : Input) (d : ℕ) → Exact s (Nested s pattern d) (parse_pattern s d) (Stopped s d)
 unfolding parse_pattern

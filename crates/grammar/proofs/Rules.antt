@@ -121,7 +121,7 @@ module _ (s : Input) where
 
 -- ---- if-lets
 
--- an if_let, or an expression that does not begin as one
+-- an if-let, or an expression that does not begin as one
 data Either (s : Input) (i : ℕ) (ts : Trees) (j : ℕ) : Type 0 where
   an_iflet : Read s iflet 64 i ts j → Either s i ts j
   an_expression : (Iffy s i → ⊥) → Read s expression 64 i ts j → Either s i ts j

@@ -148,6 +148,7 @@ module _ (s : Input) (d : ℕ) where
   value_there (holds v (over (up (then (up (token o) w) (token h)) c))) = record { derives = v_primitive o w h c; shallow = omega arith }
   value_there (fails a (holds v (over (up (then (up (token o) w) r) c)))) = record { derives = v_enum o w r.derives c; shallow = omega (arith, r.shallow) }
   value_there (fails a (fails b (holds v (over (up (then (up (token o) w) r) c))))) = record { derives = v_struct o w r.derives c; shallow = omega (arith, r.shallow) }
+  value_there {i = i} {j = j} {ts = ts} (fails a (fails b (fails _ x12))) = elim x12 [ ]
 
   value-back : {i j : ℕ} {ts : Trees} → Gram s typevalue i j ts → deepest ts ≤ d → value-shape.Means i ts j
   unfolding parse_typevalue deepest ◌⧺◌ same_bytes

@@ -110,7 +110,7 @@ pub data Gram (s : Input) : Part → ℕ → ℕ → Trees → Type 0 where
   x_template : {i j k : ℕ} {ts p : Trees} → Open s i → Name s (i + 1) → Gram s (list name) (i + 1 + 1) j ts → Close s j → Gram s pattern (j + 1) k p
       → Gram s extractor i k (one (tree_at s i ast.kind_extractor 0 (name_at s (i + 1) ▸ (ts ⧺ p))))
   -- ---- rules
-  -- rule ::= NAME? INTEGER? pattern iflet* expression          where the expression does not begin as an if_let
+  -- rule ::= NAME? INTEGER? pattern iflet* expression          where the expression does not begin as an if-let
   r_rule : {i a b c k j f g : ℕ} {n q p ts e : Trees} → RuleName s i a n f → RulePriority s a b q g
       → Gram s pattern b c p → Gram s (list iflet) c k ts → Gram s expression k j e → (Iffy s k → ⊥)
       → Gram s rule i j (one (tree_at s i ast.kind_rule (f + g) (n ⧺ q ⧺ p ⧺ ts ⧺ e)))

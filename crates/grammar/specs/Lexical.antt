@@ -75,7 +75,7 @@ pub data Short (s : Input) (i : ℕ) : Type 0 where
   not_negative : (peek s i).word1 ≡ 0 → (peek s i).word2 < 9223372036854775808 → Short s i
   negative : (peek s i).word1 ≡ 18446744073709551615 → 9223372036854775808 ≤ (peek s i).word2 → Short s i
 
--- what begins as an if-let: `(if_let` or `(if`
+-- what begins as an if-let: `(if-let` or `(if`
 pub data Iffy (s : Input) (i : ℕ) : Type 0 where
   iffy_let : Open s i → Word s word_if_let (i + 1) → Iffy s i
   iffy : Open s i → Word s word_if (i + 1) → Iffy s i

@@ -28,7 +28,7 @@ pub data Begins (s : Input) : Part → Part → ℕ → ℕ → Type 0 where
   -- NAME? INTEGER? pattern iflet*
   b_iflet : {x : Part} {i a b c j k f g : ℕ} {n q p ts : Trees} → RuleName s i a n f → RulePriority s a b q g → Read s pattern 64 b p c → Read s (list iflet) 64 c ts j
       → Begins s iflet x j k → Begins s rule x i k
-  -- NAME? INTEGER? pattern iflet*          and no if_let
+  -- NAME? INTEGER? pattern iflet*          and no if-let
   b_right : {i a b c k f g : ℕ} {n q p ts : Trees} → RuleName s i a n f → RulePriority s a b q g → Read s pattern 64 b p c → Read s (list iflet) 64 c ts k
       → (Iffy s k → ⊥) → Begins s rule expression i k
   -- '(' 'if-let'

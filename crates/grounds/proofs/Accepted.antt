@@ -11,7 +11,7 @@ use borrow.Author.Tests.{eqb-true, eqb-false, ne_eqb}
 use Rattle.trees.specs.Choice.{pick}
 use Rattle.trees.specs.declared.Head.{Head}
 use Rattle.trees.specs.Tree.{Tree, Trees, node, ∅, ◌▸◌, count, records, records_all}
-use Rattle.forms.specs.Lists.{kinds, kinds_all, MacroArg}
+use Rattle.forms.specs.Lists.{kinds, kinds_all, macro_arg}
 use Rattle.expansion.specs.Nodes.{rest, is_extractor, is_macro_arg, name_of, Every, EveryIn}
 use Rattle.expansion.specs.Expansion.{Named, named, find, lookup, Extractor, Extractors, last, but_last, extractor, extractors, term_name, called}
 use Rattle.expansion.specs.Acceptance.{TermNamed, NoMacroArg, Counted, CallsEarlier, PatternFine, ExtractorFine, AllFine, Acceptable}
@@ -45,15 +45,15 @@ module _ (Q : ℕ → Type 0) where
 mutual
   unfolding kinds Each is_macro_arg
 
-  no_args : (t : Tree) → Each (λ n. n ≡ MacroArg → ⊥) (kinds t) → Every NoMacroArg t
-  no_args (node h ts) e = (ne_eqb h.kind MacroArg e.0, no_args_in ts e.1)
+  no_args : (t : Tree) → Each (λ n. n ≡ macro_arg → ⊥) (kinds t) → Every NoMacroArg t
+  no_args (node h ts) e = (ne_eqb h.kind macro_arg e.0, no_args_in ts e.1)
 
-  no_args_in : (ts : Trees) → Each (λ n. n ≡ MacroArg → ⊥) (kinds_all ts) → EveryIn NoMacroArg ts
+  no_args_in : (ts : Trees) → Each (λ n. n ≡ macro_arg → ⊥) (kinds_all ts) → EveryIn NoMacroArg ts
   no_args_in ∅ e = tt
-  no_args_in (t ▸ ts) e = let r = each_append (λ n. n ≡ MacroArg → ⊥) (kinds t) (kinds_all ts) e in (no_args t r.0, no_args_in ts r.1)
+  no_args_in (t ▸ ts) e = let r = each_append (λ n. n ≡ macro_arg → ⊥) (kinds t) (kinds_all ts) e in (no_args t r.0, no_args_in ts r.1)
 
 args-passed : (ts : Trees) (i : ℕ) → Nowhere (macro_args ts i).fact → EveryIn NoMacroArg ts
-args-passed ts i w = no_args_in ts (each_at (λ n. n ≡ MacroArg → ⊥) (kinds_all ts) (λ k h e. w 4 (i + k) (record { is = refl; index = k; inside = h; equal = e; place = refl })))
+args-passed ts i w = no_args_in ts (each_at (λ n. n ≡ macro_arg → ⊥) (kinds_all ts) (λ k h e. w 4 (i + k) (record { is = refl; index = k; inside = h; equal = e; place = refl })))
 
 -- ---- a fact of each node, by the nodes at the records
 

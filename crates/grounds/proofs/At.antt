@@ -10,7 +10,7 @@ use lib.ListN.{length, drop, length-drop}
 use lib.Seq.{drop-drop, length-take-le}
 use borrow.Author.Tests.{eq-eqb}
 use Rattle.trees.specs.declared.Rec.{Rec}
-use Rattle.trees.specs.Tree.{Trees, node, ◌▸◌, count, firsts, head_of, records, records_all, trees_of}
+use Rattle.trees.specs.Tree.{Trees, node, ◌▸◌, firsts, head_of, records, records_all, trees_of}
 use Rattle.trees.proofs.Laws.{size-node}
 use Rattle.records.specs.Slots.{slots, rec_at, recs_from, recs}
 use Rattle.records.proofs.Reading.{recs-more, length-recs_from}

@@ -12,7 +12,7 @@ use borrow.Author.Tests.{eqb-false, ne_eqb, lt-ltb, ltb-true}
 use Rattle.trees.specs.Choice.{pick}
 use Rattle.trees.specs.declared.Head.{Head}
 use Rattle.trees.specs.Tree.{Tree, Trees, ∅, ◌▸◌, count, records_all}
-use Rattle.forms.specs.Lists.{kinds_all, MacroArg}
+use Rattle.forms.specs.Lists.{kinds_all, macro_arg}
 use Rattle.forms.specs.Depth.{depths_all, too_deep}
 use Rattle.expansion.specs.Nodes.{rest, name_of}
 use Rattle.expansion.specs.Expansion.{find, Extractor, Extractors, extractors, called}
@@ -110,9 +110,9 @@ module _ (text : List ℕ) (ds : Trees) where
     both_numbered : AllNumbered (of_both ds p)
     unfolding of_both AllNumbered
     both_numbered = (
-      listed_numbered 4 MacroArg (kinds_all ds) 0 (omega arith),
+      listed_numbered 4 macro_arg (kinds_all ds) 0 (omega arith),
       (
-        listed_numbered 4 MacroArg (kinds_all (p ▸ ∅)) (length (records_all ds)) (omega arith),
+        listed_numbered 4 macro_arg (kinds_all (p ▸ ∅)) (length (records_all ds)) (omega arith),
         (
           listed_numbered 8 too_deep (depths_all 0 ds) 0 (omega arith),
           (listed_numbered 8 too_deep (depths_all 0 (p ▸ ∅)) (length (records_all ds)) (omega arith), tt),

@@ -1,6 +1,6 @@
 -- A list that is of its kind: each record finds its children, as many as its kind has, and names are leaves. Assumes nothing.
-use mathlib.Core.Path.{◌≡◌, refl, sym, ap, ◌∙◌}
-use mathlib.Core.Bool.{Bool, true, false, false≢true}
+use mathlib.Core.Path.{◌≡◌, refl, ap, ◌∙◌}
+use mathlib.Core.Bool.{true, false≢true}
 use mathlib.Core.List.{List, [], ◌∷◌, ◌++◌, append_assoc}
 use Prim.Native.Nat.{ℕ, zero, suc, ◌+◌, ◌-◌, ◌*◌, ◌<◌, ◌≤◌}
 use native.Mathlib.Omega.{arith}
@@ -9,7 +9,7 @@ use lib.ListN.{length, length-append}
 use borrow.Author.Tests.{eqb-true, ltb-true}
 use Rattle.trees.specs.Choice.{pick}
 use Rattle.trees.specs.declared.Rec.{Rec}
-use Rattle.trees.specs.Tree.{Tree, Trees, node, ∅, ◌▸◌, count, trees_of}
+use Rattle.trees.specs.Tree.{Trees, ∅, ◌▸◌, count, trees_of}
 use Rattle.forms.specs.declared.Row.{Row}
 use Rattle.forms.specs.Tests.{◌and◌}
 use Rattle.forms.specs.Kinds.{name, pattern, rows, find, row_for}

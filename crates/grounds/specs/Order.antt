@@ -6,7 +6,7 @@ use Rattle.std.proofs.Math.Option.{Option, none, some}
 use Rattle.trees.specs.Choice.{pick}
 use Rattle.trees.specs.declared.Head.{Head}
 use Rattle.trees.specs.Tree.{Tree, Trees, node, ∅, ◌▸◌, count, records, records_all}
-use Rattle.forms.specs.Lists.{kinds_all, MacroArg}
+use Rattle.forms.specs.Lists.{kinds_all, macro_arg}
 use Rattle.forms.specs.Depth.{depths_all, too_deep}
 use Rattle.expansion.specs.Nodes.{rest, is_extractor, name_of}
 use Rattle.expansion.specs.Expansion.{find, Extractor, Extractors, extractor, extractors, called}
@@ -17,7 +17,7 @@ use Rattle.grounds.specs.Stages.{Refusal, Stage, verdict, in_turn, single, liste
 
 -- 4: a MacroArg
 abbrev pub macro_args : Trees → ℕ → Stage
-macro_args ts i = listed 4 MacroArg (kinds_all ts) i
+macro_args ts i = listed 4 macro_arg (kinds_all ts) i
 
 -- 8: a pattern or an expression at depth 65
 abbrev pub too_deeps : Trees → ℕ → Stage

@@ -8,7 +8,7 @@ use native.Mathlib.Omega.{arith}
 use lib.ListN.{length, drop}
 use Rattle.trees.specs.Tree.{Trees, firsts, records_all, trees_of}
 use Rattle.records.specs.Slots.{slots, recs}
-use Rattle.forms.specs.Lists.{first_is, kinds_all, MacroArg, first_macro_arg}
+use Rattle.forms.specs.Lists.{first_is, kinds_all, macro_arg, first_macro_arg}
 use Rattle.forms.specs.Depth.{depths_all, too_deep, first_deep_in}
 use Rattle.forms.proofs.FirstLaws.{first-at, first-before, length-kinds_all, length-depths_all}
 use Rattle.forms.proofs.SkipLaws.{macro_arg_agrees}
@@ -69,16 +69,16 @@ module _ (src : List ℕ) (d n a : ℕ) (s : n ≡ slots src) (placed : All Plac
   ts = trees_of (recs src)
 
   module _ (is : a ≡ first_macro_arg (recs src)) where
-    first_arg : first_is MacroArg (kinds_all ts) ≡ a
+    first_arg : first_is macro_arg (kinds_all ts) ≡ a
     first_arg = sym (is ∙ macro_arg_agrees ts (recs src) (list-records (recs src) placed))
 
     pub args-there : a < n → Answers (found (macro_args ts d)) (d + slots src) (Flawed 4 (d + a))
     unfolding Low
-    args-there h = record { gives = sym (listed-there 4 MacroArg (omega arith) (kinds_all ts) d a first_arg (omega (arith, length-kinds_all ts, size src placed))); low = omega arith }
+    args-there h = record { gives = sym (listed-there 4 macro_arg (omega arith) (kinds_all ts) d a first_arg (omega (arith, length-kinds_all ts, size src placed))); low = omega arith }
 
     pub args_nowhere : n ≤ a → (m : ℕ) → Answers (found (macro_args ts d)) (d + slots src) (Fine m)
     unfolding Low
-    args_nowhere h m = record { gives = sym (listed_nowhere 4 MacroArg (omega arith) (kinds_all ts) d a first_arg (omega (arith, length-kinds_all ts, size src placed))); low = tt }
+    args_nowhere h m = record { gives = sym (listed_nowhere 4 macro_arg (omega arith) (kinds_all ts) d a first_arg (omega (arith, length-kinds_all ts, size src placed))); low = tt }
 
   module _ (is : a ≡ first_deep_in (recs src)) where
     first-deep : first_is too_deep (depths_all 0 ts) ≡ a

@@ -62,7 +62,7 @@ module _ {m : ℕ} {s t : Input} (a : Agree m s t) where
   unfolding parse_iflet_if
   ifs = lparens a ⊳→ words a word_if ⊳→ parents a kind_if_let 0 (parents a kind_pattern_wildcard 0 nothings ⊳· exprs 64) ⊳→ rparens a
 
-  -- at a `(` an expression consumes it, as an if_let does
+  -- at a `(` an expression consumes it, as an if-let does
   expr-start : (i : ℕ) → is_lparen (peek s i) ≡ true → Start s 1 i (parse_expr s 64 i)
   unfolding parse_expr expr_in if_next
   expr-start i e = rw e ((parens (expr_takes s 63) (exprs 63)).start i)

@@ -13,7 +13,7 @@ use Rattle.trees.specs.Ast.{ident_node}
 use Rattle.trees.specs.Names.{spelled, without_first}
 use Rattle.tokens.specs.declared.Token.{Token}
 use Rattle.tokens.specs.Token.{is_lparen, is_rparen, is_symbol, is_int, is_at, is_word}
-use Rattle.tokens.specs.ident_node.{ident_refusal}
+use Rattle.tokens.specs.Ident.{ident_refusal}
 use Rattle.tokens.specs.Input.{Input, peek}
 use Rattle.steps.specs.Outcome.{Outcome, accept, refuse, Reader, refusal, leaf, nothing, if_next, refuse_from, refuse_at, refuse_after, unexpected, expect_at, expect-lparen, expect-rparen, expect-at, expect-word, ate, eat, ident_at, name_by, parse_ident, const_refusal, parse_const}
 use Rattle.grammar.proofs.Exact.{Nowhere, One, token}

@@ -1,7 +1,6 @@
 -- The names of a row of records, and an order of their numbers that is searched by halves.
 use Rattle.std.specs.Prelude.{◌≡◌, ℕ, zero, suc, ◌+◌, ◌-◌, ◌/◌, ◌<◌, ◌≤◌, Bool, true, false, List, length, ◌==◌, nat_lt, slice_index}
 use Rattle.trees.specs.Choice.{pick}
-use Rattle.trees.specs.declared.Rec.{Rec}
 use Rattle.trees.specs.Names.{spelled}
 use Rattle.words.specs.Bytes.{same_bytes}
 use Rattle.records.specs.Slots.{slots, rec_at}

@@ -2,7 +2,7 @@
 use mathlib.Core.Path.{◌≡◌, refl, sym, ap, ◌∙◌}
 use mathlib.Core.Bool.{true, false}
 use mathlib.Core.Option.{none, some}
-use mathlib.Core.List.{List, ◌++◌}
+use mathlib.Core.List.{List}
 use Prim.Native.Nat.{ℕ, ◌<◌, ◌≤◌}
 use native.Mathlib.Decide.{dec_lt}
 use native.Mathlib.Omega.{arith}
@@ -20,7 +20,7 @@ use Rattle.expansion.proofs.ListLaws.{list-named}
 use Rattle.grounds.specs.declared.Counts.{Counts}
 use Rattle.grounds.specs.Stages.{refusal, here, later, Refused}
 use Rattle.grounds.specs.Order.{order, grounds}
-use Rattle.grounds.specs.Opening.{tree_of, Written, counts, counts_of, Fits, of_space, Outcome, accept, refuse, after, all_opened, opening}
+use Rattle.grounds.specs.Opening.{tree_of, Written, counts, counts_of, Fits, of_space, Outcome, accept, refuse, all_opened, opening}
 use Rattle.grounds.proofs.StageLaws.{refused_exactly, passed_exactly, verdict_++}
 use Rattle.grounds.proofs.Exactly.{space_numbered}
 use Rattle.grounds.proofs.Accepted.{acceptable}

@@ -15,7 +15,7 @@ use Rattle.trees.specs.Names.{spelled}
 use Rattle.records.specs.Slots.{slots, rec_at, recs_from, recs}
 use Rattle.records.proofs.Reading.{length-recs_from}
 use Rattle.expansion.specs.Nodes.{Every}
-use Rattle.expansion.specs.Expansion.{Named, named, Extractor, Extractors, extractors, term_name, in_order, open_template, opened_templates}
+use Rattle.expansion.specs.Expansion.{Named, named, Extractor, Extractors, term_name, in_order, open_template, opened_templates}
 use Rattle.expansion.specs.Acceptance.{Counted, ExtractorFine, AllFine}
 use Rattle.expansion.specs.Flat.{span, after, opened_records, opened_at, store_records, Placed, All}
 use Rattle.expansion.proofs.NodeLaws.{every_map}

@@ -1,22 +1,21 @@
 -- What the refusals before opening give to the walk. Assumes nothing.
 use mathlib.Core.Path.{◌≡◌, refl, sym, ap, ◌∙◌}
-use mathlib.Core.Option.{Option, none, some}
+use mathlib.Core.Option.{some}
 use mathlib.Core.List.{List, [], ◌∷◌, ◌++◌}
-use Prim.Native.Nat.{ℕ, zero, suc, ◌+◌, ◌-◌, ◌*◌, ◌<◌, ◌≤◌}
+use Prim.Native.Nat.{ℕ, zero, suc, ◌+◌, ◌-◌, ◌<◌, ◌≤◌}
 use native.Mathlib.Nat.{add-zero}
-use native.Mathlib.Numerals.{add-one}
 use native.Mathlib.Omega.{arith}
-use lib.ListN.{length, get_or, drop, length-append}
+use lib.ListN.{length, drop, length-append}
 use lib.Seq.{drop-drop}
 use Rattle.trees.specs.declared.Rec.{Rec}
 use Rattle.trees.specs.declared.Head.{Head}
-use Rattle.trees.specs.Tree.{Tree, Trees, node, ∅, ◌▸◌, ◌⧺◌, count, firsts, others, head_of, records, records_all, trees_of}
+use Rattle.trees.specs.Tree.{Tree, Trees, ∅, ◌▸◌, ◌⧺◌, count, firsts, others, head_of, records, records_all, trees_of}
 use Rattle.records.specs.Slots.{slots, rec_at, recs}
 use Rattle.expansion.specs.Nodes.{rest, tree_at, Every, EveryIn}
-use Rattle.expansion.specs.Expansion.{Named, named, Extractor, Extractors, called, term_name, in_order, open_template, opened_templates}
+use Rattle.expansion.specs.Expansion.{Named, named, Extractor, Extractors, in_order, open_template, opened_templates}
 use Rattle.expansion.specs.Acceptance.{Counted, AllFine}
-use Rattle.expansion.specs.Flat.{span, after, end_of, Fits, Placed, All, called_at}
-use Rattle.expansion.proofs.SpanLaws.{span-zero, firsts-add, count-firsts, trees_of-after, after-zero}
+use Rattle.expansion.specs.Flat.{span, end_of, Fits, Placed, All, called_at}
+use Rattle.expansion.proofs.SpanLaws.{span-zero, firsts-add, count-firsts}
 use Rattle.expansion.proofs.FlatOpening.{called_flat}
 use Rattle.expansion.proofs.IndexLaws.{all-at}
 use Rattle.expansion.proofs.ListLaws.{list-records}

@@ -19,7 +19,7 @@ use tokens::Token;
 use trees::Head;
 
 // The pattern at p, of at most this depth.
-#[cycle(parse_and_parse_bind_parse_compound_parse_pattern_parse_patterns_parse_term)]
+#[cycle(pattern)]
 pub fn parse_pattern(
     tokens: &[u8],
     text: &[u8],
@@ -62,7 +62,7 @@ pub fn parse_pattern(
 }
 
 // A pattern that is a name, bound or not, or stands in parentheses, by the next token t; the patterns inside are of at most this depth.
-#[cycle(parse_and_parse_bind_parse_compound_parse_pattern_parse_patterns_parse_term)]
+#[cycle(pattern)]
 fn parse_compound(
     tokens: &[u8],
     text: &[u8],
@@ -93,7 +93,7 @@ fn parse_compound(
 }
 
 // A name, `@` and the pattern that it is bound over; here and below t is the next token.
-#[cycle(parse_and_parse_bind_parse_compound_parse_pattern_parse_patterns_parse_term)]
+#[cycle(pattern)]
 fn parse_bind(
     tokens: &[u8],
     text: &[u8],
@@ -114,7 +114,7 @@ fn parse_bind(
 }
 
 // `(and ..)`
-#[cycle(parse_and_parse_bind_parse_compound_parse_pattern_parse_patterns_parse_term)]
+#[cycle(pattern)]
 fn parse_and(
     tokens: &[u8],
     text: &[u8],
@@ -136,7 +136,7 @@ fn parse_and(
 }
 
 // `(term ..)`
-#[cycle(parse_and_parse_bind_parse_compound_parse_pattern_parse_patterns_parse_term)]
+#[cycle(pattern)]
 fn parse_term(
     tokens: &[u8],
     text: &[u8],
@@ -158,7 +158,7 @@ fn parse_term(
 }
 
 // Patterns up to a `)`, which is left.
-#[cycle(parse_and_parse_bind_parse_compound_parse_pattern_parse_patterns_parse_term)]
+#[cycle(pattern)]
 fn parse_patterns(
     tokens: &[u8],
     text: &[u8],

@@ -1,13 +1,12 @@
 -- How promises are put together as readers are: laws that serve every parse function. Assumes nothing.
-use Prim.Native.Nat.{ℕ, zero, suc, ◌+◌, ◌*◌, ◌<◌, ◌≤◌}
+use Prim.Native.Nat.{ℕ, ◌+◌}
 use native.Mathlib.Omega.{arith}
 use mathlib.Core.Path.{◌≡◌, refl, sym, ap, subst, ◌∙◌}
-use mathlib.Core.List.{List, [], ◌∷◌}
+use mathlib.Core.List.{List}
 use mathlib.Core.Bool.{Bool, true, false}
-use lib.ListN.{length}
 use lib.Dec.{eqb}
 use Rattle.trees.specs.Choice.{choose}
-use Rattle.trees.specs.Tree.{Tree, Trees, node, ∅, ◌▸◌, ◌⧺◌, count, head, record_of, records_all}
+use Rattle.trees.specs.Tree.{Trees, node, ∅, ◌▸◌, count, head, record_of, records_all}
 use Rattle.trees.specs.declared.Head.{Head}
 use Rattle.trees.proofs.Laws.{size_none, size-one, size-node, size_⧺, count_none, count-one, count_⧺}
 use Rattle.records.specs.Slots.{put, writes}
@@ -21,7 +20,7 @@ use Rattle.tokens.specs.Input.{Input, input, peek}
 use Rattle.steps.specs.declared.Refusal.{Refusal}
 use Rattle.steps.specs.declared.Parsed.{Parsed}
 use Rattle.steps.specs.declared.Parsed.TheVariants.{Accepted, Refused}
-use Rattle.steps.specs.Outcome.{Outcome, accept, refuse, Reader, refusal, before, and_then, ◌⊳◌, then_at, node_of, parent, bare, leaf, nothing, refuse_from, flagged, if_next, if_second, ate, eat, refuse_after, unexpected, expect_at, ident_at, name_by, parse_ident}
+use Rattle.steps.specs.Outcome.{Outcome, accept, refuse, Reader, before, and_then, ◌⊳◌, then_at, node_of, parent, bare, leaf, nothing, refuse_from, flagged, if_next, if_second, ate, eat, refuse_after, expect_at, ident_at, name_by, parse_ident}
 use Rattle.steps.specs.Met.{Taken, Met, Chained, ChainedAt, moved_to, moved, inside, Closed, Leafed, token_for, second_for, Flags}
 
 -- ---- outcomes

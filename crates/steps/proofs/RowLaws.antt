@@ -1,23 +1,21 @@
 -- Rows of items: the bound on their number never runs out, and a loop over them. Only this file speaks of that bound. Assumes nothing.
-use Prim.Native.Nat.{ℕ, zero, suc, ◌+◌, ◌-◌, ◌*◌, ◌<◌, ◌≤◌}
+use Prim.Native.Nat.{ℕ, zero, suc, ◌+◌, ◌-◌, ◌<◌, ◌≤◌}
 use native.Mathlib.Omega.{arith}
 use mathlib.Core.Path.{◌≡◌, refl, sym, ap, subst, ◌∙◌}
-use mathlib.Core.List.{List, [], ◌∷◌}
-use mathlib.Core.Bool.{Bool, true, false, not}
-use lib.ListN.{length}
+use mathlib.Core.List.{List}
+use mathlib.Core.Bool.{Bool, true, false}
 use borrow.Author.Tests.{not-true, not-false}
 use Rattle.trees.specs.Choice.{choose}
-use Rattle.trees.specs.Tree.{Trees, ∅, ◌⧺◌, count, records_all}
+use Rattle.trees.specs.Tree.{Trees, ∅, ◌⧺◌, count}
 use Rattle.trees.proofs.Laws.{size_⧺}
 use Rattle.tokens.specs.Token.{is_rparen}
 use Rattle.tokens.specs.Input.{Input, peek, size}
-use Rattle.steps.specs.declared.Refusal.{Refusal}
 use Rattle.steps.specs.declared.Parsed.{Parsed}
 use Rattle.steps.specs.declared.Parsed.TheVariants.{Accepted, Refused}
 use Rattle.steps.specs.Outcome.{Outcome, accept, refuse, Reader, refusal, before, nothing, then_at, items_from, many_at, many, row, parse_ident}
-use Rattle.steps.specs.Met.{Taken, Met, Chained, ChainedAt, goes_on, At, Ready}
+use Rattle.steps.specs.Met.{Met, Chained, ChainedAt, goes_on, At, Ready}
 use Rattle.steps.proofs.MetLaws.{begun, chain_at, plain_at}
-use Rattle.steps.proofs.SizeLaws.{Fit, Sized, Bounded, BoundedAt, Steady, Item, ident_item, plain-bounded, nothing-bounded, sized-refuse, sized-accept, sized-choose}
+use Rattle.steps.proofs.SizeLaws.{Fit, Sized, BoundedAt, Steady, Item, ident_item, plain-bounded, nothing-bounded, sized-refuse, sized-accept, sized-choose}
 
 -- ---- the bound
 

@@ -1,21 +1,21 @@
 -- How far a part reads and how many records it makes: at most three for each token. Assumes nothing.
-use Prim.Native.Nat.{ℕ, zero, suc, ◌+◌, ◌-◌, ◌*◌, ◌<◌, ◌≤◌}
+use Prim.Native.Nat.{ℕ, ◌+◌, ◌*◌, ◌<◌, ◌≤◌}
 use native.Mathlib.Omega.{arith}
-use mathlib.Core.Path.{◌≡◌, refl, sym, ap, subst, ◌∙◌}
+use mathlib.Core.Path.{◌≡◌, refl, sym, subst}
 use mathlib.Core.List.{List, []}
 use mathlib.Core.Bool.{Bool, true, false}
 use lib.ListN.{length}
 use lib.Dec.{eqb}
 use borrow.Author.Tests.{eqb-true}
 use Rattle.trees.specs.Choice.{pick, choose}
-use Rattle.trees.specs.Tree.{Tree, Trees, node, ∅, ◌▸◌, ◌⧺◌, count, head, records_all}
+use Rattle.trees.specs.Tree.{Trees, node, ∅, ◌▸◌, ◌⧺◌, head, records_all}
 use Rattle.trees.specs.declared.Head.{Head}
 use Rattle.trees.specs.Ast.{ident_node}
 use Rattle.trees.specs.Names.{spelled, without_first}
 use Rattle.trees.proofs.Laws.{size_none, size-one, size-node, size_⧺, count-size}
 use Rattle.tokens.specs.declared.Token.{Token}
-use Rattle.tokens.specs.Token.{token_count, token_at, is_lparen, is_rparen, is_symbol, is_int, is_at, is_const, is_word}
-use Rattle.tokens.specs.ident_node.{ident_refusal}
+use Rattle.tokens.specs.Token.{token_at, is_lparen, is_rparen, is_symbol, is_int, is_at, is_const, is_word}
+use Rattle.tokens.specs.Ident.{ident_refusal}
 use Rattle.tokens.specs.Input.{Input, input, peek, size}
 use Rattle.tokens.proofs.TokenLaws.{kind-inside, word-kind}
 use Rattle.steps.specs.declared.Refusal.{Refusal}
@@ -23,8 +23,8 @@ use Rattle.steps.specs.declared.Parsed.{Parsed}
 use Rattle.steps.specs.declared.Parsed.TheVariants.{Accepted, Refused}
 use Rattle.steps.specs.Outcome.{Outcome, accept, refuse, Reader, refusal, before, and_then, ◌⊳◌, node_of, parent, bare, leaf, nothing, refuse_from, refuse_at, flagged, ate, eat, refuse_after, refused_as, pragma_refusal, if_next, if_second, unexpected, expect_at, expect-lparen, expect-rparen, expect-at, expect-word, ident_at, name_by, parse_ident, const_refusal, parse_const}
 use Rattle.steps.proofs.StepLaws.{ready_at, ready-below, name-inside, const_inside}
-use Rattle.steps.specs.Met.{Taken, Met, Chained, ChainedAt, moved_to, moved, inside, token_for, At, Ready, Below, Near, Small}
-use Rattle.steps.proofs.MetLaws.{plain_at, token}
+use Rattle.steps.specs.Met.{Met, Chained, ChainedAt, moved_to, moved, inside, token_for, At, Ready, Below, Near, Small}
+use Rattle.steps.proofs.MetLaws.{token}
 
 -- the row ts, read from token i to j: at least u tokens, and 3 records for each of them with c to spare and d too many at most
 pub record Fit (u c d : ℕ) (s : Input) (i : ℕ) (ts : Trees) (j : ℕ) : Type 0 where

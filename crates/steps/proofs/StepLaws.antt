@@ -10,26 +10,25 @@ use mir.Syntax.{w64, w16}
 use mir.Val.{Fits}
 use types.Run.{OneOf}
 use denote.Enum.Declared.{tag_of}
-use borrow.Author.Tests.{eq-eqb, ne_eqb, eqb-true, not-true, not-false}
+use borrow.Author.Tests.{eq-eqb, ne_eqb, eqb-true}
 use Rattle.trees.specs.Choice.{pick, choose}
-use Rattle.trees.specs.Tree.{Trees, node, ∅, ◌▸◌, head, record_of, records_all}
+use Rattle.trees.specs.Tree.{node, ∅, head, record_of, records_all}
 use Rattle.trees.specs.declared.Head.{Head}
 use Rattle.trees.specs.Names.{spelled, without_first}
-use Rattle.trees.specs.Ast.{ident_node}
 use Rattle.trees.proofs.Laws.{count_none, count-one, size-one, size-node, size_none}
 use Rattle.records.specs.Slots.{put, writes}
 use Rattle.records.proofs.Laws.{writes-node, writes-none}
 use Rattle.tokens.specs.declared.Token.{Token}
-use Rattle.tokens.specs.Token.{token_count, token_at, kind_at, past_last, is_kind, is_lparen, is_rparen, is_symbol, is_at, is_const, is_word}
-use Rattle.tokens.specs.ident_node.{ident_refusal}
+use Rattle.tokens.specs.Token.{token_at, kind_at, past_last, is_kind, is_lparen, is_rparen, is_symbol, is_at, is_const, is_word}
+use Rattle.tokens.specs.Ident.{ident_refusal}
 use Rattle.tokens.specs.Input.{Input, input, peek}
 use Rattle.tokens.proofs.TokenLaws.{kind-inside, kind-is, word-kind, const_kind}
 use Rattle.steps.specs.declared.Refusal.{Refusal}
 use Rattle.steps.specs.declared.Parsed.{Parsed}
 use Rattle.steps.specs.declared.Parsed.TheVariants.{Accepted, Refused}
 use Rattle.steps.specs.contracts.Parsed.{the_type}
-use Rattle.steps.specs.Outcome.{Outcome, accept, refuse, refusal, Reader, refuse_from, ate, eat, refuse_after, refused_as, pragma_refusal, unexpected, expect_at, ident_at, name_by, parse_ident, const_refusal, parse_const}
-use Rattle.steps.specs.Met.{Taken, Met, Chained, moved_to, moved, inside, Closed, Leafed, token_for, second_for, Next, goes_on, ends_at, At, Ready, Below, Near, Small, Flags}
+use Rattle.steps.specs.Outcome.{Outcome, accept, refuse, refusal, refuse_from, ate, eat, refuse_after, refused_as, pragma_refusal, unexpected, expect_at, ident_at, name_by, parse_ident, const_refusal, parse_const}
+use Rattle.steps.specs.Met.{Met, Chained, moved_to, moved, inside, Closed, Leafed, token_for, second_for, Next, goes_on, ends_at, At, Ready, Below, Near, Small, Flags}
 
 -- ---- a state that is no acceptance, and the same state made anew
 

@@ -1,14 +1,14 @@
 -- Readers: what reading a part comes to, from the index of the next token, and how readers are put together.
 -- Each function of parser.rs is such a reader, under its name. A `$` alone is no constant here, as document 02 has it.
-use Rattle.std.specs.Prelude.{ℕ, zero, suc, ◌+◌, List, [], ◌∷◌, Bool, true, false, ◌&&◌, length, get_or, eqb, ltb}
+use Rattle.std.specs.Prelude.{ℕ, zero, suc, ◌+◌, List, Bool, ◌&&◌, length, get_or, eqb, ltb}
 use Rattle.trees.specs.Choice.{pick, choose}
-use Rattle.trees.specs.Tree.{Tree, Trees, node, ∅, ◌▸◌, ◌⧺◌, count, head}
+use Rattle.trees.specs.Tree.{Trees, node, ∅, ◌▸◌, ◌⧺◌, count, head}
 use Rattle.trees.specs.declared.Head.{Head}
 use Rattle.trees.specs.Ast.{ident_node}
 use Rattle.trees.specs.Names.{spelled, without_first}
 use Rattle.tokens.specs.declared.Token.{Token}
 use Rattle.tokens.specs.Token.{token_at, is_lparen, is_rparen, is_symbol, is_at, is_word}
-use Rattle.tokens.specs.ident_node.{ident_refusal}
+use Rattle.tokens.specs.Ident.{ident_refusal}
 use Rattle.tokens.specs.Input.{Input, peek, pos_at, size}
 use Rattle.steps.specs.declared.Refusal.{Refusal}
 

@@ -2,11 +2,9 @@
 use Prim.Native.Nat.{ℕ, ◌-◌, ◌*◌, ◌/◌, ◌<◌, ◌≤◌, min}
 use native.Mathlib.Omega.{arith}
 use mathlib.Core.Path.{◌≡◌, refl, ap, ◌∙◌}
-use mathlib.Core.List.{List, [], ◌∷◌, ◌++◌}
+use mathlib.Core.List.{List, ◌++◌}
 use lib.ListN.{length, take, replicate}
 use lib.Dec.{leb}
-use types.Run.{OneOf, miss}
-use denote.Enum.Declared.{tag_of}
 use borrow.Author.Tests.{lt-ltb, le-ltb, le-leb, lt-leb}
 use Rattle.trees.specs.Choice.{pick}
 use Rattle.trees.specs.declared.Rec.{Rec}
@@ -15,7 +13,6 @@ use Rattle.records.proofs.BackLaws.{writes-cleared}
 use Rattle.records.specs.Result.{accepted, refused}
 use Rattle.templates.specs.declared.Answer.{Answer}
 use Rattle.templates.specs.declared.Answer.TheVariants.{Accepted, MacroArg, NoPattern, NoSpace}
-use Rattle.templates.specs.contracts.Answer.{the_type}
 use Rattle.templates.specs.Answers.{number_of, Countable, fitted, settled, Answered, cleared, output_of, Finished}
 use Rattle.templates.specs.Writing.{Wrote, all, full}
 
@@ -81,9 +78,9 @@ answered_countable wanted l a b NoSpace v = tt
 
 -- ---- the end of an entry
 
-pub finish_refused : (answer : Answer) (a b : List ℕ) (r : ℕ) → b ≡ replicate (length a) 0 → r ≡ number_of answer → OneOf (1 ∷ 2 ∷ 3 ∷ []) (tag_of the_type answer) → Finished answer a b r
+pub finish_refused : (answer : Answer) (a b : List ℕ) (r : ℕ) → b ≡ replicate (length a) 0 → r ≡ number_of answer → ((n : ℕ) → answer ≡ Accepted n → ⊥) → Finished answer a b r
 unfolding cleared
-finish_refused (Accepted n) a b r e f h = absurd (miss (1 ∷ 2 ∷ 3 ∷ []) 0 tt h)
+finish_refused (Accepted n) a b r e f h = absurd (h n refl)
 finish_refused (MacroArg at) a b r e f h = record { number = f; output = e }
 finish_refused (NoPattern at) a b r e f h = record { number = f; output = e }
 finish_refused NoSpace a b r e f h = record { number = f; output = e }

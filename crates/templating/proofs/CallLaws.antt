@@ -67,29 +67,29 @@ module _ {A : Type 0} (stop : ℕ → A) (n k : ℕ) (c : A) (e : n ≡ k) where
   unfolding lent
   lent-size a b h = rw (← e, ne_eqb n 0 h)
 
-  pub lent-first : (a b x : Bool) → n ≡ 0 → x ≡ a → not x ≡ true → lent stop k a b c ≡ stop 3
+  pub lent-first : (a b x : Bool) → n ≡ 0 → x ≡ a → x ≡ false → lent stop k a b c ≡ stop 3
   unfolding lent
-  lent-first a b x h f g = rw (← e, eq-eqb n 0 h, ← f, not-true x g)
+  lent-first a b x h f g = rw (← e, eq-eqb n 0 h, ← f, g)
 
-  pub lent-second : (a b x z : Bool) → n ≡ 0 → x ≡ a → not x ≡ false → z ≡ b → not z ≡ true → lent stop k a b c ≡ stop 3
+  pub lent-second : (a b x z : Bool) → n ≡ 0 → x ≡ a → x ≡ true → z ≡ b → z ≡ false → lent stop k a b c ≡ stop 3
   unfolding lent
-  lent-second a b x z h f g i j = rw (← e, eq-eqb n 0 h, ← f, not-false x g, ← i, not-true z j)
+  lent-second a b x z h f g i j = rw (← e, eq-eqb n 0 h, ← f, g, ← i, j)
 
-  pub lent_right : (a b x z : Bool) → n ≡ 0 → x ≡ a → not x ≡ false → z ≡ b → not z ≡ false → lent stop k a b c ≡ c
+  pub lent_right : (a b x z : Bool) → n ≡ 0 → x ≡ a → x ≡ true → z ≡ b → z ≡ true → lent stop k a b c ≡ c
   unfolding lent
-  lent_right a b x z h f g i j = rw (← e, eq-eqb n 0 h, ← f, not-false x g, ← i, not-false z j)
+  lent_right a b x z h f g i j = rw (← e, eq-eqb n 0 h, ← f, g, ← i, j)
 
 module _ (n k : ℕ) (c : Call) (l' : List ℕ) (size r : ℕ) (e : n ≡ k) where
   pub wrong_size : (a b : Bool) → (n ≡ 0 → ⊥) → Ended (stopped n) size l' r → Ended (lent stopped k a b c) size l' r
   wrong_size a b h y = rw (lent-size stopped n k c e a b h) y
 
-  pub wrong_first : (a b x : Bool) → n ≡ 0 → x ≡ a → not x ≡ true → Ended (stopped 3) size l' r → Ended (lent stopped k a b c) size l' r
+  pub wrong_first : (a b x : Bool) → n ≡ 0 → x ≡ a → x ≡ false → Ended (stopped 3) size l' r → Ended (lent stopped k a b c) size l' r
   wrong_first a b x h f g y = rw (lent-first stopped n k c e a b x h f g) y
 
-  pub wrong_second : (a b x z : Bool) → n ≡ 0 → x ≡ a → not x ≡ false → z ≡ b → not z ≡ true → Ended (stopped 3) size l' r → Ended (lent stopped k a b c) size l' r
+  pub wrong_second : (a b x z : Bool) → n ≡ 0 → x ≡ a → x ≡ true → z ≡ b → z ≡ false → Ended (stopped 3) size l' r → Ended (lent stopped k a b c) size l' r
   wrong_second a b x z h f g i j y = rw (lent-second stopped n k c e a b x z h f g i j) y
 
-  pub right : (a b x z : Bool) → n ≡ 0 → x ≡ a → not x ≡ false → z ≡ b → not z ≡ false → Ended c size l' r → Ended (lent stopped k a b c) size l' r
+  pub right : (a b x z : Bool) → n ≡ 0 → x ≡ a → x ≡ true → z ≡ b → z ≡ true → Ended c size l' r → Ended (lent stopped k a b c) size l' r
   right a b x z h f g i j y = rw (lent_right stopped n k c e a b x z h f g i j) y
 
 pub short-first : (text second n : ℕ) (l : List ℕ) → n ≡ sizes text (length l) second → n ≡ 0 → slots l ≤ 65536
@@ -105,10 +105,10 @@ unfolding number bytes
 finished wanted complete a b c r x p q e = record { returns = finished-number wanted complete a b c r x p q; output = finished-output wanted complete a b c r x p q e }
 
 module _ (text : ℕ) (l m : List ℕ) (n : ℕ) (s : n ≡ sizes text (length l) (length m)) (z : n ≡ 0) where
-  pub ready_to_make : (x y : Bool) → x ≡ is_one text pattern (recs l) → not x ≡ false → y ≡ is_many text name (recs m) → not y ≡ false → MakeReady l m
-  ready_to_make x y i a j b = let w = short text (length l) (length m) (sym z ∙ s) in record { few = w.0; placed = fits-placed (recs l) text 0 (pattern ∷ []) (sym i ∙ not-false x a); idents = record { leaves = fits-names (recs m) text (sym j ∙ not-false y b) } }
+  pub ready_to_make : (x y : Bool) → x ≡ is_one text pattern (recs l) → x ≡ true → y ≡ is_many text name (recs m) → y ≡ true → MakeReady l m
+  ready_to_make x y i a j b = let w = short text (length l) (length m) (sym z ∙ s) in record { few = w.0; placed = fits-placed (recs l) text 0 (pattern ∷ []) (sym i ∙ a); idents = record { leaves = fits-names (recs m) text (sym j ∙ b) } }
 
-  pub ready_to_substitute : (x y : Bool) → x ≡ is_one text pattern (recs l) → not x ≡ false → y ≡ is_many text pattern (recs m) → not y ≡ false → SubstituteReady l m
+  pub ready_to_substitute : (x y : Bool) → x ≡ is_one text pattern (recs l) → x ≡ true → y ≡ is_many text pattern (recs m) → y ≡ true → SubstituteReady l m
   ready_to_substitute x y i a j b =
       let w = short text (length l) (length m) (sym z ∙ s) in
-      record { few = w.0; few_patterns = w.1; placed = fits-placed (recs l) text 0 (pattern ∷ []) (sym i ∙ not-false x a); args = fits-args (recs l) text 0 (pattern ∷ []) (sym i ∙ not-false x a); patterns_placed = fits-placed (recs m) text pattern [] (sym j ∙ not-false y b) }
+      record { few = w.0; few_patterns = w.1; placed = fits-placed (recs l) text 0 (pattern ∷ []) (sym i ∙ a); args = fits-args (recs l) text 0 (pattern ∷ []) (sym i ∙ a); patterns_placed = fits-placed (recs m) text pattern [] (sym j ∙ b) }

@@ -1,5 +1,5 @@
 -- Laws of names: their bytes in the text, and what the tests of characters go by. Assumes nothing.
-use Prim.Native.Nat.{ℕ, zero, suc, ◌+◌, ◌-◌, ◌*◌, ◌/◌, ◌%◌, ◌^◌, ◌<◌, ◌≤◌, min, max}
+use Prim.Native.Nat.{ℕ, zero, suc, ◌+◌, ◌-◌, ◌/◌, ◌%◌, ◌^◌, ◌<◌, ◌≤◌, min, max}
 use native.Mathlib.Omega.{arith}
 use native.Mathlib.Numerals.{add-one, unary_clauses}
 use mathlib.Core.Path.{◌≡◌, refl, sym, ap, ◌∙◌}

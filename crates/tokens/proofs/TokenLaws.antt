@@ -1,8 +1,8 @@
 -- Laws of tokens: what stands at an index, and what each test tells. Assumes nothing.
-use Prim.Native.Nat.{ℕ, zero, suc, ◌+◌, ◌*◌, ◌/◌, ◌%◌, ◌<◌, ◌≤◌}
+use Prim.Native.Nat.{ℕ, ◌+◌, ◌*◌, ◌/◌, ◌%◌, ◌<◌, ◌≤◌}
 use native.Mathlib.Omega.{arith}
-use mathlib.Core.Path.{◌≡◌, refl, sym, ap, ◌∙◌}
-use mathlib.Core.List.{List, [], ◌∷◌}
+use mathlib.Core.Path.{◌≡◌, refl, ◌∙◌}
+use mathlib.Core.List.{List}
 use mathlib.Core.Bool.{Bool, true, false}
 use lib.ListN.{length, get_or}
 use lib.Dec.{ltb, eqb}
@@ -12,7 +12,7 @@ use Rattle.trees.specs.Names.{spelled}
 use Rattle.words.specs.Words.{word_at}
 use Rattle.words.specs.Bytes.{same_bytes}
 use Rattle.tokens.specs.declared.Token.{Token}
-use Rattle.tokens.specs.Token.{token_count, token_of, past_last, token_at, kind_at, is_lparen, is_rparen, is_symbol, is_int, is_at, is_const, is_word}
+use Rattle.tokens.specs.Token.{token_count, token_of, past_last, token_at, kind_at, is_const, is_word}
 
 pub token-there : (tokens : List ℕ) (end i a b c : ℕ) → i < length tokens / 24 → a ≡ word_at tokens (i * 24) → b ≡ word_at tokens (i * 24 + 8) → c ≡ word_at tokens (i * 24 + 16) → token_of a b c ≡ token_at tokens end i
 unfolding token_at

@@ -1,5 +1,5 @@
 -- Identifiers start with a letter, `_` or `$`, then letters, digits, `_ . $`.
-use Rattle.std.specs.Prelude.{ℕ, List, [], ◌∷◌, Bool, true, false, ◌&&◌, ◌||◌, leb, eqb}
+use Rattle.std.specs.Prelude.{ℕ, List, [], ◌∷◌, Bool, true, ◌&&◌, ◌||◌, leb, eqb}
 use Rattle.trees.specs.Choice.{pick}
 
 unfoldable pub letter : ℕ → Bool

@@ -1,7 +1,7 @@
 -- What is read: the tokens, the text that symbols lie in, and the end position.
-use Rattle.std.specs.Prelude.{ℕ, ◌≤◌, List, Bool, length}
+use Rattle.std.specs.Prelude.{ℕ, ◌≤◌, List, length}
 use Rattle.tokens.specs.declared.Token.{Token}
-use Rattle.tokens.specs.Token.{token_count, token_at, is_const, is_word}
+use Rattle.tokens.specs.Token.{token_count, token_at}
 
 pub record Input : Type 0 where
   pub tokens : List ℕ

@@ -1,5 +1,5 @@
 -- Tokens in a list of bytes, 24 bytes each (document 01, 'Token records'), and the tests of a token.
-use Rattle.std.specs.Prelude.{ℕ, ◌+◌, ◌*◌, ◌/◌, ◌%◌, List, Bool, true, false, length, get_or, ltb, eqb}
+use Rattle.std.specs.Prelude.{ℕ, ◌+◌, ◌*◌, ◌/◌, ◌%◌, List, Bool, false, length, get_or, ltb, eqb}
 use Rattle.trees.specs.Choice.{pick}
 use Rattle.trees.specs.Names.{spelled}
 use Rattle.words.specs.Words.{word_at}

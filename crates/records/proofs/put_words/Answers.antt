@@ -1,5 +1,4 @@
 use Rattle.records.proofs.Laws.{three_words, no_slot}
-use borrow.Author.Rules.{rules}
 use Rattle.records.proofs.put_words.Goals as goal
 
 pub returns-then-n-out : goal.returns-then-n-out

@@ -1,5 +1,4 @@
 use Rattle.records.specs.Slots.{rec_at}
-use borrow.Author.Rules.{rules}
 use Rattle.records.proofs.rec_at.Goals as goal
 
 pub returns : goal.returns

@@ -1,5 +1,4 @@
 use Rattle.tokens.proofs.TokenLaws.{kind-there, kind_past}
-use borrow.Author.Rules.{rules}
 use Rattle.tokens.proofs.kind_at.Goals as goal
 
 pub returns-then-at-tokens : goal.returns-then-at-tokens

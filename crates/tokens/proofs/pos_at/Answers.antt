@@ -1,5 +1,4 @@
 use Rattle.tokens.proofs.TokenLaws.{pos-there, pos_past}
-use borrow.Author.Rules.{rules}
 use Rattle.tokens.proofs.pos_at.Goals as goal
 
 pub returns-then-at-tokens : goal.returns-then-at-tokens

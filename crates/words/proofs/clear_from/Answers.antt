@@ -1,9 +1,6 @@
 use borrow.Author.Rules.{rules}
-use native.Mathlib.Omega.{arith}
-use mathlib.Core.Path.{◌≡◌}
-use Prim.Native.Nat.{◌≤◌, ◌+◌, ◌-◌}
-use lib.ListN.{length, length-set}
-use Rattle.words.proofs.FillLaws.{filled, fill_start, fill_step, fill_end}
+use lib.ListN.{length-set}
+use Rattle.words.proofs.FillLaws.{fill_start, fill_step, fill_end}
 use Rattle.words.proofs.clear_from.Goals as goal
 
 pub loop-i-init : goal.loop-i-init

@@ -1,9 +1,7 @@
-use borrow.Author.Rules.{rules}
-use native.Mathlib.Omega.{arith}
 use mathlib.Core.Path.{◌≡◌}
 use Prim.Native.Nat.{◌≤◌, ◌+◌, ◌-◌}
-use lib.ListN.{length, length-set}
-use Rattle.words.proofs.FillLaws.{filled, fill_start, fill_step, fill_end}
+use lib.ListN.{length}
+use Rattle.words.proofs.FillLaws.{filled}
 use Rattle.words.proofs.clear_from.Given as goal
 
 abbrev pub invariant-loop-i : goal.invariant-loop-i

@@ -2,7 +2,6 @@ use native.Mathlib.Omega.{arith}
 use native.Mathlib.Numerals.{towards_suc}
 use lib.ListN.{length-set}
 use Rattle.words.specs.Words.{be4}
-use borrow.Author.Rules.{rules}
 use Rattle.words.proofs.put_half.Goals as goal
 
 pub bounds-out-at-2 : goal.bounds-out-at-2

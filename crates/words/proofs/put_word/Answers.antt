@@ -1,5 +1,4 @@
 use Rattle.words.proofs.Laws.{two-halves}
-use borrow.Author.Rules.{rules}
 use Rattle.words.proofs.put_word.Goals as goal
 
 pub returns : goal.returns

@@ -1,8 +1,5 @@
 use borrow.Author.Rules.{rules}
-use mathlib.Core.Path.{◌≡◌, refl}
-use Prim.Native.Nat.{◌≤◌, ◌-◌}
-use lib.ListN.{length, drop}
-use Rattle.words.specs.Bytes.{same_bytes}
+use mathlib.Core.Path.{refl}
 use Rattle.words.proofs.SameLaws.{lengths_differ, bytes-agree, bytes_differ, bytes-end}
 use Rattle.words.proofs.same.Goals as goal
 

@@ -1,9 +1,7 @@
-use borrow.Author.Rules.{rules}
-use mathlib.Core.Path.{◌≡◌, refl}
+use mathlib.Core.Path.{◌≡◌}
 use Prim.Native.Nat.{◌≤◌, ◌-◌}
 use lib.ListN.{length, drop}
 use Rattle.words.specs.Bytes.{same_bytes}
-use Rattle.words.proofs.SameLaws.{lengths_differ, bytes-agree, bytes_differ, bytes-end}
 use Rattle.words.proofs.same.Given as goal
 
 abbrev pub invariant-loop-i : goal.invariant-loop-i

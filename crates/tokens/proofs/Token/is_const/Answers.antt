@@ -1,5 +1,4 @@
 use Rattle.tokens.proofs.TokenLaws.{const_symbol, const_other}
-use borrow.Author.Rules.{rules}
 use Rattle.tokens.proofs.Token.is_const.Goals as goal
 
 pub returns-then-self-eq-SYMBOL : goal.returns-then-self-eq-SYMBOL

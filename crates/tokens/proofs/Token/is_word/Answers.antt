@@ -1,5 +1,4 @@
 use Rattle.tokens.proofs.TokenLaws.{word-symbol, word-other}
-use borrow.Author.Rules.{rules}
 use Rattle.tokens.proofs.Token.is_word.Goals as goal
 
 pub returns-then-self-eq-SYMBOL : goal.returns-then-self-eq-SYMBOL

@@ -1,9 +1,4 @@
-use borrow.Author.Rules.{rules}
 use borrow.Author.Tests.{not-true, not-false}
-use mathlib.Core.Path.{◌≡◌}
-use Prim.Native.Nat.{◌-◌}
-use Rattle.tokens.specs.Token.{token_count}
-use Rattle.tokens.specs.Lent.{first_bad, bad_from}
 use Rattle.tokens.proofs.LentLaws.{bad-start, bad-on, bad-found, bad-none}
 use Rattle.tokens.proofs.lent.first_bad.Goals as goal
 

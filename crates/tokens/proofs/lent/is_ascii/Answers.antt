@@ -1,9 +1,4 @@
-use borrow.Author.Rules.{rules}
-use mathlib.Core.Path.{◌≡◌, refl}
-use Prim.Native.Nat.{◌-◌}
-use lib.ListN.{length, drop}
-use Rattle.tokens.specs.Lent.{ascii}
-use Rattle.tokens.proofs.LentLaws.{ascii_from, ascii-start, ascii-on, ascii-end}
+use Rattle.tokens.proofs.LentLaws.{ascii-start, ascii-on, ascii-end}
 use Rattle.tokens.proofs.lent.is_ascii.Goals as goal
 
 pub loop-i-init : goal.loop-i-init

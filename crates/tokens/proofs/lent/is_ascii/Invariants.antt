@@ -1,9 +1,8 @@
-use borrow.Author.Rules.{rules}
-use mathlib.Core.Path.{◌≡◌, refl}
+use mathlib.Core.Path.{◌≡◌}
 use Prim.Native.Nat.{◌-◌}
 use lib.ListN.{length, drop}
 use Rattle.tokens.specs.Lent.{ascii}
-use Rattle.tokens.proofs.LentLaws.{ascii_from, ascii-start, ascii-on, ascii-end}
+use Rattle.tokens.proofs.LentLaws.{ascii_from}
 use Rattle.tokens.proofs.lent.is_ascii.Given as goal
 
 abbrev pub invariant-loop-i : goal.invariant-loop-i

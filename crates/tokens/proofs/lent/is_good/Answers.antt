@@ -1,5 +1,4 @@
 use Rattle.tokens.proofs.LentLaws.{good-is}
-use borrow.Author.Rules.{rules}
 use Rattle.tokens.proofs.lent.is_good.Goals as goal
 
 pub returns : goal.returns

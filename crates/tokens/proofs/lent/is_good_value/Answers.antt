@@ -1,5 +1,4 @@
 use Rattle.tokens.proofs.LentLaws.{value-int, value_spare, value_outside, value-plain, value-inside}
-use borrow.Author.Rules.{rules}
 use Rattle.tokens.proofs.lent.is_good_value.Goals as goal
 
 pub returns-then-kind-eq-INT : goal.returns-then-kind-eq-INT

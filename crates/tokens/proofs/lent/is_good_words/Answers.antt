@@ -1,5 +1,4 @@
 use Rattle.tokens.proofs.LentLaws.{words_none, words_kind, words_spare, words_place, words_value}
-use borrow.Author.Rules.{rules}
 use Rattle.tokens.proofs.lent.is_good_words.Goals as goal
 
 pub returns-then-kind-eq-NONE : goal.returns-then-kind-eq-NONE

@@ -1,9 +1,5 @@
-use borrow.Author.Rules.{rules}
-use mathlib.Core.Path.{◌≡◌, refl}
-use Prim.Native.Nat.{◌-◌}
-use lib.ListN.{length, drop}
-use Rattle.tokens.specs.Ident.{all_go_on}
-use Rattle.tokens.proofs.NameLaws.{go_on_from, long-on, long-end}
+use mathlib.Core.Path.{refl}
+use Rattle.tokens.proofs.NameLaws.{long-on, long-end}
 use Rattle.tokens.proofs.names.all_follow.Goals as goal
 
 pub loop-i-init : goal.loop-i-init

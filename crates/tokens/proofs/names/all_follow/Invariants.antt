@@ -1,9 +1,8 @@
-use borrow.Author.Rules.{rules}
-use mathlib.Core.Path.{◌≡◌, refl}
+use mathlib.Core.Path.{◌≡◌}
 use Prim.Native.Nat.{◌-◌}
 use lib.ListN.{length, drop}
 use Rattle.tokens.specs.Ident.{all_go_on}
-use Rattle.tokens.proofs.NameLaws.{go_on_from, long-on, long-end}
+use Rattle.tokens.proofs.NameLaws.{go_on_from}
 use Rattle.tokens.proofs.names.all_follow.Given as goal
 
 abbrev pub invariant-loop-i : goal.invariant-loop-i

@@ -1,9 +1,5 @@
 use borrow.Author.Tests.{not-true, not-false}
-use borrow.Author.Rules.{rules}
-use mathlib.Core.Path.{◌≡◌, refl}
-use Prim.Native.Nat.{◌-◌}
-use lib.ListN.{length, drop}
-use Rattle.tokens.specs.Ident.{all_go_on}
+use mathlib.Core.Path.{refl}
 use Rattle.tokens.proofs.NameLaws.{short_on, short-bad, short-end}
 use Rattle.tokens.proofs.names.all_follow_short.Goals as goal
 

@@ -1,10 +1,7 @@
-use borrow.Author.Tests.{not-true, not-false}
-use borrow.Author.Rules.{rules}
-use mathlib.Core.Path.{◌≡◌, refl}
+use mathlib.Core.Path.{◌≡◌}
 use Prim.Native.Nat.{◌-◌}
 use lib.ListN.{length, drop}
 use Rattle.tokens.specs.Ident.{all_go_on}
-use Rattle.tokens.proofs.NameLaws.{short_on, short-bad, short-end}
 use Rattle.tokens.proofs.names.all_follow_short.Given as goal
 
 abbrev pub invariant-loop-i : goal.invariant-loop-i

@@ -1,5 +1,4 @@
 use Rattle.tokens.proofs.NameLaws.{begins-is}
-use borrow.Author.Rules.{rules}
 use Rattle.tokens.proofs.names.begins.Goals as goal
 
 pub returns : goal.returns

@@ -1,5 +1,4 @@
 use Rattle.tokens.proofs.NameLaws.{no_first}
-use borrow.Author.Rules.{rules}
 use Rattle.tokens.proofs.names.first_byte.Goals as goal
 
 pub returns-else-s-gt0 : goal.returns-else-s-gt0

@@ -1,5 +1,4 @@
 use borrow.Author.Tests.{not-true, not-false}
-use borrow.Author.Rules.{rules}
 use Rattle.tokens.proofs.NameLaws.{ident-empty, ident-first, ident-good, ident-bad}
 use Rattle.tokens.proofs.names.ident_refusal.Goals as goal
 

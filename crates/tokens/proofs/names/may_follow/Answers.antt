@@ -1,5 +1,4 @@
 use Rattle.tokens.proofs.NameLaws.{on_past, on_mask}
-use borrow.Author.Rules.{rules}
 use Rattle.tokens.proofs.names.may_follow.Goals as goal
 
 pub returns-then-c-gt127 : goal.returns-then-c-gt127

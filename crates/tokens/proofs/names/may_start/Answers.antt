@@ -1,5 +1,4 @@
 use Rattle.tokens.proofs.NameLaws.{starts-letter, starts_line, starts-dollar}
-use borrow.Author.Rules.{rules}
 use Rattle.tokens.proofs.names.may_start.Goals as goal
 
 pub returns-then-is_letter : goal.returns-then-is_letter

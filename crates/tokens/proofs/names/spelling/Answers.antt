@@ -1,5 +1,4 @@
 use Rattle.tokens.proofs.NameLaws.{spelled_is}
-use borrow.Author.Rules.{rules}
 use Rattle.tokens.proofs.names.spelling.Goals as goal
 
 pub returns : goal.returns

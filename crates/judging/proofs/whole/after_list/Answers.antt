@@ -1,0 +1,6 @@
+use Rattle.judging.proofs.WholeLaws.{moved-low}
+use native.Mathlib.Omega.{arith}
+use Rattle.judging.proofs.whole.after_list.Goals as goal
+
+pub overflow_add-result : goal.overflow_add-result
+overflow_add-result c = omega (arith, moved-low _ _ _ _ c.in-Flawed.is c.requires.1, c.requires.0)

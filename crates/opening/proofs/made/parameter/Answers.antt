@@ -1,0 +1,14 @@
+use Rattle.opening.proofs.MadeLaws.{seeking_start, seeking_end, seeking_here, seeking_next}
+use Rattle.opening.proofs.made.parameter.Goals as goal
+
+pub loop-j-init : goal.loop-j-init
+loop-j-init c = search seeking_start
+
+pub returns-then-same_name : goal.returns-then-same_name
+returns-then-same_name c = search seeking_here
+
+pub loop-j-preserved : goal.loop-j-preserved
+loop-j-preserved c = search seeking_next
+
+pub returns : goal.returns
+returns c = search seeking_end

@@ -1,0 +1,8 @@
+use Rattle.parser.proofs.RuleLaws.{i64_low, i64_high}
+use Rattle.parser.proofs.rules.is_i64.Goals as goal
+
+pub returns-then-lower-lt9223372036854775808 : goal.returns-then-lower-lt9223372036854775808
+returns-then-lower-lt9223372036854775808 c = search i64_low
+
+pub returns : goal.returns
+returns c = search i64_high

@@ -1,0 +1,21 @@
+use native.Mathlib.Omega.{arith}
+use Rattle.steps.proofs.MetLaws.{chain, token, node-read}
+use Rattle.steps.proofs.SizeLaws.{near-ready, small_over, small-moved, ready-inside, ready_token_less, ready-token, word_kinded, lparen_kinded}
+use Rattle.parser.proofs.TypeLaws.{fields-bounded}
+use borrow.Author.Rules.{rules}
+use Rattle.parser.proofs.types.value_struct.Goals as goal
+
+pub inside-requires : goal.inside-requires
+inside-requires c = search near-ready
+
+pub parse_fields-fields-requires : goal.parse_fields-fields-requires
+parse_fields-fields-requires c = (ready_token_less 4 2 (omega arith) (omega arith) _ _ _ _ _ _ c.expect_word-word.ensures (word_kinded _ _) (ready-token _ _ _ _ _ _ _ c.expect_lparen-open.ensures lparen_kinded (ready-inside 3 4 (omega arith) (omega arith) _ _ _ c.inside.ensures c.requires)))
+
+pub close_at-requires-clause-near : goal.close_at-requires-clause-near
+close_at-requires-clause-near c = search near-ready
+
+pub close_at-requires-clause-small : goal.close_at-requires-clause-small
+close_at-requires-clause-small c = small-moved _ _ _ _ _ c.expect_rparen-q.ensures (small_over 2 _ _ _ _ _ _ _ _ c.parse_fields-fields.ensures c.requires (fields-bounded _) (ready_token_less 4 2 (omega arith) (omega arith) _ _ _ _ _ _ c.expect_word-word.ensures (word_kinded _ _) (ready-token _ _ _ _ _ _ _ c.expect_lparen-open.ensures lparen_kinded (ready-inside 3 4 (omega arith) (omega arith) _ _ _ c.inside.ensures c.requires))))
+
+pub returns : goal.returns
+returns c = node-read _ _ _ _ _ _ _ _ _ _ _ _ _ c.close_at.ensures c.inside.ensures (chain _ _ _ _ _ _ _ _ (token _ _ _ _ _ _ c.expect_rparen-q.ensures) (chain _ _ _ _ _ _ _ _ c.parse_fields-fields.ensures (chain _ _ _ _ _ _ _ _ (token _ _ _ _ _ _ c.expect_word-word.ensures) (token _ _ _ _ _ _ c.expect_lparen-open.ensures))))

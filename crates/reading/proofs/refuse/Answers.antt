@@ -1,0 +1,6 @@
+use Rattle.reading.proofs.ReadLaws.{stops}
+use borrow.Author.Rules.{rules}
+use Rattle.reading.proofs.refuse.Goals as goal
+
+pub returns : goal.returns
+returns c = search stops
