@@ -94,19 +94,19 @@ module _ (n k : ℕ) (c : Outcome) (b b' : Outputs) (r : ℕ) (e : n ≡ k) wher
   pub wrong_size : (x y : Bool) → (n ≡ 0 → ⊥) → Left (stopped n) b b' r → Left (lent stopped k x y c) b b' r
   wrong_size x y h l = rw (lent-size stopped n k c e x y h) l
 
-  pub wrong_first : (x y z : Bool) → n ≡ 0 → z ≡ x → not z ≡ true → Left (stopped 3) b b' r → Left (lent stopped k x y c) b b' r
+  pub wrong_first : (x y z : Bool) → n ≡ 0 → z ≡ x → z ≡ false → Left (stopped 3) b b' r → Left (lent stopped k x y c) b b' r
   wrong_first x y z h f g l = rw (lent-first stopped n k c e x y z h f g) l
 
-  pub wrong_second : (x y z w : Bool) → n ≡ 0 → z ≡ x → not z ≡ false → w ≡ y → not w ≡ true → Left (stopped 3) b b' r → Left (lent stopped k x y c) b b' r
+  pub wrong_second : (x y z w : Bool) → n ≡ 0 → z ≡ x → z ≡ true → w ≡ y → w ≡ false → Left (stopped 3) b b' r → Left (lent stopped k x y c) b b' r
   wrong_second x y z w h f g i j l = rw (lent-second stopped n k c e x y z w h f g i j) l
 
-  pub right : (x y z w : Bool) → n ≡ 0 → z ≡ x → not z ≡ false → w ≡ y → not w ≡ false → Left c b b' r → Left (lent stopped k x y c) b b' r
+  pub right : (x y z w : Bool) → n ≡ 0 → z ≡ x → z ≡ true → w ≡ y → w ≡ true → Left c b b' r → Left (lent stopped k x y c) b b' r
   right x y z w h f g i j l = rw (lent_right stopped n k c e x y z w h f g i j) l
 
 -- by the lengths of the text and of the lists
 module _ (t d q n : ℕ) (is : n ≡ sizes t d q) (none : n ≡ 0) where
-  pub first_shaped : (defs : List ℕ) (x : Bool) → d ≡ length defs → x ≡ is_many t definition (recs defs) → not x ≡ false → DefinitionsShaped defs
-  first_shaped defs x e i a = definitions_shaped t defs (sym i ∙ not-false x a) (omega (arith, (short t d q (sym none ∙ is)).0))
+  pub first_shaped : (defs : List ℕ) (x : Bool) → d ≡ length defs → x ≡ is_many t definition (recs defs) → x ≡ true → DefinitionsShaped defs
+  first_shaped defs x e i a = definitions_shaped t defs (sym i ∙ a) (omega (arith, (short t d q (sym none ∙ is)).0))
 
-  pub second_shaped : (p : List ℕ) (y : Bool) → q ≡ length p → y ≡ is_one t pattern (recs p) → not y ≡ false → PatternShaped p
-  second_shaped p y e i a = pattern_shaped t p (sym i ∙ not-false y a) (omega (arith, (short t d q (sym none ∙ is)).1))
+  pub second_shaped : (p : List ℕ) (y : Bool) → q ≡ length p → y ≡ is_one t pattern (recs p) → y ≡ true → PatternShaped p
+  second_shaped p y e i a = pattern_shaped t p (sym i ∙ a) (omega (arith, (short t d q (sym none ∙ is)).1))
