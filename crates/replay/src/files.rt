@@ -1,6 +1,6 @@
 // The files of answers, each replayed to its end.
 use crate::output_cases::Entry;
-use crate::tally::{Step, Tally, write};
+use crate::tallies::{Step, Tally, write};
 use crate::{open_cases, output_cases};
 use std::fs;
 use std::io::{self, BufRead, BufReader};

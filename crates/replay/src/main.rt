@@ -7,7 +7,7 @@ mod open_cases;
 mod output_cases;
 mod outputs;
 mod stored;
-mod tally;
+mod tallies;
 
 use std::io;
 

@@ -9,7 +9,7 @@ ghost use Rattle.replay.specs.SmallOpening.{SmallOpening};
 
 use crate::outputs::{holds, prefill, same_answer};
 use crate::stored::filled;
-use crate::tally::{Step, Tally, damaged, stop};
+use crate::tallies::{Step, Tally, damaged, stop};
 use openings::open;
 use std::io::{self, BufRead};
 use words::word;

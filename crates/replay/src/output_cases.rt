@@ -12,7 +12,7 @@ ghost use Rattle.replay.specs.SmallCase.{SmallCase};
 
 use crate::outputs::{prefill, same_answer, without_space};
 use crate::stored::{filled, list_space, text_space};
-use crate::tally::{Step, Tally, damaged, stop};
+use crate::tallies::{Step, Tally, damaged, stop};
 use reading::read;
 use std::io::{self, BufRead};
 use templating::{fill, make};
