@@ -11,6 +11,8 @@ use forms::depth::first_deep;
 use forms::judge::{definitions, idents, many_patterns, one_pattern};
 use forms::scans::{first_macro_arg, skip};
 use records::{put, rec_at, slots};
+use std::alloc::Global;
+use std::io::{self, Read};
 use trees::Rec;
 
 fn judge(how: u8, list: &[u8]) -> bool
@@ -173,70 +175,59 @@ fn wildcard() -> Rec {
     }
 }
 
-fn line(label: &[u8], n: u64) {
-    io::write_all(1, label);
-    io::print_decimal(1, n);
-    io::write_all(1, b"\n");
+fn line(rt: &impl Print, label: &str, n: u64) -> io::Result<()> {
+    println!(rt; "{label}{n}")
 }
 
-fn write_field(field: usize) {
-    if field == 0 {
-        io::write_all(1, b"kind");
-    }
-    if field == 1 {
-        io::write_all(1, b"flags");
-    }
-    if field == 2 {
-        io::write_all(1, b"child count");
-    }
-    if field == 3 {
-        io::write_all(1, b"position");
-    }
-    if field == 4 {
-        io::write_all(1, b"word 1");
-    }
-    if field == 5 {
-        io::write_all(1, b"word 2");
-    }
-    if field == 6 {
-        io::write_all(1, b"nothing");
-    }
+fn write_field(rt: &impl Print, field: usize) -> io::Result<()> {
+    rt.print(match field {
+        0 => "kind",
+        1 => "flags",
+        2 => "child count",
+        3 => "position",
+        4 => "word 1",
+        5 => "word 2",
+        6 => "nothing",
+        _ => "",
+    })
 }
 
 // For each field, how many lists are accepted with that field of one record damaged.
-fn report(input: &mut [u8])
+fn report(rt: &impl Print, input: &mut [u8]) -> io::Result<()>
     requires { length input.old ≤ 65536 }
 {
-    line(b"records: ", count_records(input));
+    line(rt, "records: ", count_records(input))?;
     let mut field = 0;
     while field < 7 {
-        write_field(field);
-        line(b" damaged, accepted: ", try_lists(input, field));
+        write_field(rt, field)?;
+        line(rt, " damaged, accepted: ", try_lists(input, field))?;
         field += 1;
     }
+    Ok(())
 }
 
-fn report_large(list: &[u8])
+fn report_large(rt: &impl Print, list: &[u8]) -> io::Result<()>
     requires { slots list.now ≤ 65536 }
 {
-    line(b"one pattern: ", one_if(one_pattern(list, 0)));
-    line(b"first at depth 65: ", first_deep(list) as u64);
-    line(b"first MacroArg: ", first_macro_arg(list) as u64);
-    line(b"after the first tree: ", skip(list, 0, 1) as u64);
+    line(rt, "one pattern: ", one_if(one_pattern(list, 0)))?;
+    line(rt, "first at depth 65: ", first_deep(list) as u64)?;
+    line(rt, "first MacroArg: ", first_macro_arg(list) as u64)?;
+    line(rt, "after the first tree: ", skip(list, 0, 1) as u64)
 }
 
 // 65,536 records, each inside the one before it; then all but the first side by side.
-fn large(list: &mut [u8; 1572864]) {
-    fill(list, and_of(1), and_of(1), wildcard());
-    report_large(list);
-    fill(list, and_of(65535), wildcard(), wildcard());
-    report_large(list);
+fn large(rt: &impl Print, alloc: Global) -> io::Result<()> {
+    let mut list = vec![in alloc; 0u8; 1572864]?;
+    fill(&mut list, and_of(1), and_of(1), wildcard());
+    report_large(rt, &list)?;
+    fill(&mut list, and_of(65535), wildcard(), wildcard());
+    report_large(rt, &list)
 }
 
-fn main() {
-    let mut input = io::large_buffer();
-    let got = io::read_full(0, &mut input);
-    report(&mut input[..got]);
-    let mut list = [0u8; 1572864];
-    large(&mut list);
+fn main(rt: HostRuntime) -> io::Result<()> {
+    let mut input = Vec::new(rt.alloc());
+    rt.reader().take(65536).read_to_end(&mut input)?;
+    input.truncate(65536);
+    report(&rt, &mut input)?;
+    large(&rt, rt.alloc())
 }

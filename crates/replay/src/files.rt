@@ -1,7 +1,10 @@
 // The files of answers, each replayed to its end.
 use crate::output_cases::Entry;
-use crate::tally::{Step, Tally, write};
+use crate::tallies::{Step, Tally, write};
 use crate::{open_cases, output_cases};
+use std::fs;
+use std::io::{self, BufRead, BufReader};
+use std::rt::Files;
 
 // What a file holds cases of: an entry with one output, or opening.
 #[derive(Clone, Copy)]
@@ -10,54 +13,66 @@ enum Kind {
     Open,
 }
 
-fn next_case(fd: i32, kind: Kind, tally: Tally) -> Step {
+fn next_case(
+    rt: &impl Print,
+    cases: &mut impl BufRead,
+    kind: Kind,
+    tally: Tally,
+) -> io::Result<Step> {
     match kind {
-        Kind::Output(entry) => return output_cases::next_case(fd, entry, tally),
-        Kind::Open => return open_cases::next_case(fd, tally),
+        Kind::Output(entry) => output_cases::next_case(rt, cases, entry, tally),
+        Kind::Open => open_cases::next_case(rt, cases, tally),
     }
 }
 
 // Nothing says that a file ends, so the turns are counted down from a number that no file uses up.
-fn all_cases(fd: i32, kind: Kind) -> Tally {
+fn all_cases(rt: &impl Print, cases: &mut impl BufRead, kind: Kind) -> io::Result<Tally> {
     let mut s = Step {
         tally: Tally::none(),
         more: true,
     };
     let mut turns: u64 = 1000000000;
     while 0 < turns && s.more {
-        s = next_case(fd, kind, s.tally);
+        s = next_case(rt, cases, kind, s.tally)?;
         turns -= 1;
     }
-    s.tally
+    Ok(s.tally)
 }
 
-fn replay(name: &[u8], label: &[u8], kind: Kind) {
-    let fd = os::open_read(name);
-    if fd < 0 {
-        io::write_all(1, name);
-        io::write_all(1, b": cannot be opened\n");
-        return;
+fn replay(
+    rt: &(impl Files + Print + Alloc),
+    name: &str,
+    label: &str,
+    kind: Kind,
+) -> io::Result<()> {
+    match fs::open(rt, name) {
+        Ok(file) => {
+            let mut cases = BufReader::new(rt.alloc(), file)?;
+            write(rt, label, all_cases(rt, &mut cases, kind)?)
+        }
+        Err(_) => println!(rt; "{name}: cannot be opened"),
     }
-    write(label, all_cases(fd, kind));
-    libc::close(fd);
 }
 
-pub fn replay_all() {
-    replay(b"read.answers", b"reading: ", Kind::Output(Entry::Read));
+pub fn replay_all(rt: &(impl Files + Print + Alloc)) -> io::Result<()> {
+    replay(rt, "read.answers", "reading: ", Kind::Output(Entry::Read))?;
     replay(
-        b"text.answers",
-        b"reading text: ",
+        rt,
+        "text.answers",
+        "reading text: ",
         Kind::Output(Entry::Text),
-    );
+    )?;
     replay(
-        b"template.answers",
-        b"template making: ",
+        rt,
+        "template.answers",
+        "template making: ",
         Kind::Output(Entry::Make),
-    );
+    )?;
     replay(
-        b"substitute.answers",
-        b"substitution: ",
+        rt,
+        "substitute.answers",
+        "substitution: ",
         Kind::Output(Entry::Fill),
-    );
-    replay(b"open.answers", b"opening: ", Kind::Open);
+    )?;
+    replay(rt, "open.answers", "opening: ", Kind::Open)
 }

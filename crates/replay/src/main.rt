@@ -7,8 +7,10 @@ mod open_cases;
 mod output_cases;
 mod outputs;
 mod stored;
-mod tally;
+mod tallies;
 
-fn main() {
-    files::replay_all();
+use std::io;
+
+fn main(rt: HostRuntime) -> io::Result<()> {
+    files::replay_all(&rt)
 }

@@ -9,8 +9,9 @@ ghost use Rattle.replay.specs.SmallOpening.{SmallOpening};
 
 use crate::outputs::{holds, prefill, same_answer};
 use crate::stored::filled;
-use crate::tally::{Step, Tally, damaged, stop};
+use crate::tallies::{Step, Tally, damaged, stop};
 use openings::open;
+use std::io::{self, BufRead};
 use words::word;
 
 // Sizes in bytes: of the lists, of the store and the output that are lent, and of what the case says that they hold.
@@ -196,7 +197,8 @@ fn replay_outputs(
 
 // The rest of a case: buffers of just the sizes that it names.
 fn replay_parts(
-    fd: i32,
+    rt: &impl Print,
+    cases: &mut impl BufRead,
     text: &mut [u8],
     defs: &mut [u8],
     pattern: &mut [u8],
@@ -204,34 +206,35 @@ fn replay_parts(
     written: &mut [u8],
     c: Opening,
     tally: Tally,
-) -> Step
+) -> io::Result<Step>
     requires { SmallOpening c }
 {
-    if !filled(fd, text) {
-        return damaged(tally);
+    if !filled(cases, text)? {
+        return damaged(rt, tally);
     }
-    if !filled(fd, defs) {
-        return damaged(tally);
+    if !filled(cases, defs)? {
+        return damaged(rt, tally);
     }
-    if !filled(fd, pattern) {
-        return damaged(tally);
+    if !filled(cases, pattern)? {
+        return damaged(rt, tally);
     }
-    if !filled(fd, stored) {
-        return damaged(tally);
+    if !filled(cases, stored)? {
+        return damaged(rt, tally);
     }
-    if !filled(fd, written) {
-        return damaged(tally);
+    if !filled(cases, written)? {
+        return damaged(rt, tally);
     }
-    Step {
+    Ok(Step {
         tally: replay_outputs(
             text, defs, pattern, c.store, c.out, c.answer, stored, written, tally,
         ),
         more: true,
-    }
+    })
 }
 
 fn lend(
-    fd: i32,
+    rt: &impl Print,
+    cases: &mut impl BufRead,
     text: &mut [u8],
     defs: &mut [u8],
     pattern: &mut [u8],
@@ -239,7 +242,7 @@ fn lend(
     written: &mut [u8],
     c: Opening,
     tally: Tally,
-) -> Step
+) -> io::Result<Step>
     requires small_opening { SmallOpening c }
     requires value { 98314 ≡ length text.old }
     requires value_2 { 98314 ≡ length defs.old }
@@ -253,7 +256,8 @@ fn lend(
     let n = c.stored;
     let m = c.written;
     replay_parts(
-        fd,
+        rt,
+        cases,
         &mut text[..a],
         &mut defs[..b],
         &mut pattern[..d],
@@ -264,7 +268,12 @@ fn lend(
     )
 }
 
-fn replay_case(fd: i32, c: Opening, tally: Tally) -> Step
+fn replay_case(
+    rt: &impl Print,
+    cases: &mut impl BufRead,
+    c: Opening,
+    tally: Tally,
+) -> io::Result<Step>
     requires { SmallOpening c }
 {
     let mut text = out_space();
@@ -273,7 +282,8 @@ fn replay_case(fd: i32, c: Opening, tally: Tally) -> Step
     let mut stored = out_space();
     let mut written = out_space();
     lend(
-        fd,
+        rt,
+        cases,
         &mut text,
         &mut defs,
         &mut pattern,
@@ -285,18 +295,17 @@ fn replay_case(fd: i32, c: Opening, tally: Tally) -> Step
 }
 
 // The next case, where the file has one.
-pub fn next_case(fd: i32, tally: Tally) -> Step {
-    let mut head = [0u8; 28];
-    let got = io::read_full(fd, &mut head);
-    if got == 0 {
-        return stop(tally);
+pub fn next_case(rt: &impl Print, cases: &mut impl BufRead, tally: Tally) -> io::Result<Step> {
+    if cases.fill_buf()?.is_empty() {
+        return Ok(stop(tally));
     }
-    if got < 28 {
-        return damaged(tally);
+    let mut head = [0u8; 28];
+    if !filled(cases, &mut head)? {
+        return damaged(rt, tally);
     }
     let c = opening_of(&head);
     if is_small(c) {
-        return replay_case(fd, c, tally);
+        return replay_case(rt, cases, c, tally);
     }
-    damaged(tally)
+    damaged(rt, tally)
 }

@@ -12,8 +12,9 @@ ghost use Rattle.replay.specs.SmallCase.{SmallCase};
 
 use crate::outputs::{prefill, same_answer, without_space};
 use crate::stored::{filled, list_space, text_space};
-use crate::tally::{Step, Tally, damaged, stop};
+use crate::tallies::{Step, Tally, damaged, stop};
 use reading::read;
+use std::io::{self, BufRead};
 use templating::{fill, make};
 use texts::read_text;
 use tokens::Token;
@@ -244,26 +245,32 @@ fn is_small(c: Case) -> bool
     c.records <= 24576
 }
 
-fn filled_both(fd: i32, a: &mut [u8], b: &mut [u8]) -> bool {
-    if !filled(fd, a) {
-        return false;
+fn filled_both(cases: &mut impl BufRead, a: &mut [u8], b: &mut [u8]) -> io::Result<bool> {
+    if !filled(cases, a)? {
+        return Ok(false);
     }
-    filled(fd, b)
+    filled(cases, b)
 }
 
 // Whether the file went on for the text and the first list: the tokens stand before their text, lists after it.
-fn filled_inputs(fd: i32, entry: Entry, text: &mut [u8], first: &mut [u8]) -> bool {
+fn filled_inputs(
+    cases: &mut impl BufRead,
+    entry: Entry,
+    text: &mut [u8],
+    first: &mut [u8],
+) -> io::Result<bool> {
     match entry {
-        Entry::Read => return filled_both(fd, first, text),
-        Entry::Text => return filled_both(fd, text, first),
-        Entry::Make => return filled_both(fd, text, first),
-        Entry::Fill => return filled_both(fd, text, first),
+        Entry::Read => return filled_both(cases, first, text),
+        Entry::Text => return filled_both(cases, text, first),
+        Entry::Make => return filled_both(cases, text, first),
+        Entry::Fill => return filled_both(cases, text, first),
     }
 }
 
 // The rest of a case: buffers of just the sizes that it names.
 fn replay_parts(
-    fd: i32,
+    rt: &impl Print,
+    cases: &mut impl BufRead,
     entry: Entry,
     text: &mut [u8],
     first: &mut [u8],
@@ -272,34 +279,35 @@ fn replay_parts(
     records: &mut [u8],
     answer: u64,
     tally: Tally,
-) -> Step
+) -> io::Result<Step>
     requires first_len_bound { length first.old ≤ 24576 }
     requires records_len_bound { length records.old ≤ 24576 }
 {
-    if !filled_inputs(fd, entry, text, first) {
-        return damaged(tally);
+    if !filled_inputs(cases, entry, text, first)? {
+        return damaged(rt, tally);
     }
-    if !filled_both(fd, second, records) {
-        return damaged(tally);
+    if !filled_both(cases, second, records)? {
+        return damaged(rt, tally);
     }
     let mut out = out_space();
-    Step {
+    Ok(Step {
         tally: compare(
             entry, text, first, second, end, answer, records, &mut out, tally,
         ),
         more: true,
-    }
+    })
 }
 
 fn lend(
-    fd: i32,
+    rt: &impl Print,
+    cases: &mut impl BufRead,
     text: &mut [u8],
     first: &mut [u8],
     second: &mut [u8],
     records: &mut [u8],
     c: Case,
     tally: Tally,
-) -> Step
+) -> io::Result<Step>
     requires small_case { SmallCase c }
     requires value { 65537 ≡ length text.old }
     requires value_2 { 24576 ≡ length first.old }
@@ -312,7 +320,8 @@ fn lend(
     let n = c.records;
     let entry = c.entry;
     replay_parts(
-        fd,
+        rt,
+        cases,
         entry,
         &mut text[..a],
         &mut first[..b],
@@ -324,7 +333,7 @@ fn lend(
     )
 }
 
-fn replay_case(fd: i32, c: Case, tally: Tally) -> Step
+fn replay_case(rt: &impl Print, cases: &mut impl BufRead, c: Case, tally: Tally) -> io::Result<Step>
     requires { SmallCase c }
 {
     let mut text = text_space();
@@ -332,7 +341,8 @@ fn replay_case(fd: i32, c: Case, tally: Tally) -> Step
     let mut second = list_space();
     let mut records = list_space();
     lend(
-        fd,
+        rt,
+        cases,
         &mut text,
         &mut first,
         &mut second,
@@ -343,18 +353,22 @@ fn replay_case(fd: i32, c: Case, tally: Tally) -> Step
 }
 
 // The next case, where the file has one.
-pub fn next_case(fd: i32, entry: Entry, tally: Tally) -> Step {
-    let mut head = [0u8; 24];
-    let got = io::read_full(fd, &mut head);
-    if got == 0 {
-        return stop(tally);
+pub fn next_case(
+    rt: &impl Print,
+    cases: &mut impl BufRead,
+    entry: Entry,
+    tally: Tally,
+) -> io::Result<Step> {
+    if cases.fill_buf()?.is_empty() {
+        return Ok(stop(tally));
     }
-    if got < 24 {
-        return damaged(tally);
+    let mut head = [0u8; 24];
+    if !filled(cases, &mut head)? {
+        return damaged(rt, tally);
     }
     let c = case_of(&head, entry);
     if is_small(c) {
-        return replay_case(fd, c, tally);
+        return replay_case(rt, cases, c, tally);
     }
-    damaged(tally)
+    damaged(rt, tally)
 }

@@ -1,9 +1,15 @@
 // Pieces of a file of answers.
 ghost use Rattle.std.specs.Prelude.{◌≡◌, length};
 
+use std::io::{self, ErrorKind, Read};
+
 // Whether the file went on for all of the buffer.
-pub fn filled(fd: i32, buf: &mut [u8]) -> bool {
-    io::read_full(fd, buf) == buf.len()
+pub fn filled(cases: &mut impl Read, buf: &mut [u8]) -> io::Result<bool> {
+    match cases.read_exact(buf) {
+        Ok(()) => Ok(true),
+        Err(e) if e.kind() == ErrorKind::UnexpectedEof => Ok(false),
+        Err(e) => Err(e),
+    }
 }
 
 // Room for a text that is one byte too long.

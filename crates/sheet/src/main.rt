@@ -7,41 +7,42 @@ ghost use Rattle.std.specs.Prelude.{◌≡◌, ◌≤◌, length};
 
 use reading::read;
 use records::{rec_at, slots};
+use std::io::{self, ErrorKind, Read};
 use tokens::Token;
 use trees::Rec;
 use words::word;
 
-fn print(n: u64) {
-    io::print_decimal(1, n);
+fn print(rt: &impl Print, n: u64) -> io::Result<()> {
+    rt.print(n)
 }
 
-fn print_next(n: u64) {
-    io::write_all(1, b" ");
-    print(n);
+fn print_next(rt: &impl Print, n: u64) -> io::Result<()> {
+    rt.print(" ")?;
+    print(rt, n)
 }
 
-fn end_line() {
-    io::write_all(1, b"\n");
+fn end_line(rt: &impl Print) -> io::Result<()> {
+    rt.print("\n")
 }
 
 // The line `refusal place count`.
-fn print_result(refusal: u64, place: u64, count: u64) {
-    print(refusal);
-    print_next(place);
-    print_next(count);
-    end_line();
+fn print_result(rt: &impl Print, refusal: u64, place: u64, count: u64) -> io::Result<()> {
+    print(rt, refusal)?;
+    print_next(rt, place)?;
+    print_next(rt, count)?;
+    end_line(rt)
 }
 
 // Kind, flags, child count, position, both halves of word 1, word 2.
-fn print_record(r: Rec) {
-    print(r.kind as u64);
-    print_next(r.flags as u64);
-    print_next(r.count as u64);
-    print_next(r.pos as u64);
-    print_next(r.word1 / 4294967296);
-    print_next(r.word1 % 4294967296);
-    print_next(r.word2);
-    end_line();
+fn print_record(rt: &impl Print, r: Rec) -> io::Result<()> {
+    print(rt, r.kind as u64)?;
+    print_next(rt, r.flags as u64)?;
+    print_next(rt, r.count as u64)?;
+    print_next(rt, r.pos as u64)?;
+    print_next(rt, r.word1 / 4294967296)?;
+    print_next(rt, r.word1 % 4294967296)?;
+    print_next(rt, r.word2)?;
+    end_line(rt)
 }
 
 fn least(a: usize, b: usize) -> usize
@@ -54,51 +55,68 @@ fn least(a: usize, b: usize) -> usize
 }
 
 // The first n records, as far as they are there.
-fn print_records(list: &[u8], n: usize) {
+fn print_records(rt: &impl Print, list: &[u8], n: usize) -> io::Result<()> {
     let end = least(n, slots(list));
     let mut i = 0;
     while i < end {
-        print_record(rec_at(list, i));
+        print_record(rt, rec_at(list, i))?;
         i += 1;
     }
+    Ok(())
 }
 
-fn print_answer(answer: u64, out: &[u8]) {
+fn print_answer(rt: &impl Print, answer: u64, out: &[u8]) -> io::Result<()> {
     let count = answer / 4294967296 % 16777216;
-    print_result(answer / 72057594037927936, answer % 4294967296, count);
-    print_records(out, count as usize);
+    print_result(rt, answer / 72057594037927936, answer % 4294967296, count)?;
+    print_records(rt, out, count as usize)
 }
 
 // Room for three records per token, which is as many as an accepted list can take.
-fn print_reading(tokens: &[u8], text: &[u8], end: u32) {
+fn print_reading(rt: &impl Print, tokens: &[u8], text: &[u8], end: u32) -> io::Result<()> {
     let mut out = [0u8; 36864];
     let answer = read(tokens, text, end, &mut out);
-    print_answer(answer, &out);
+    print_answer(rt, answer, &out)
 }
 
 // Whether the input went on for all of the buffer.
-fn filled(buf: &mut [u8]) -> bool {
-    io::read_full(0, buf) == buf.len()
+fn filled(input: &mut impl Read, buf: &mut [u8]) -> io::Result<bool> {
+    match input.read_exact(buf) {
+        Ok(()) => Ok(true),
+        Err(e) if e.kind() == ErrorKind::UnexpectedEof => Ok(false),
+        Err(e) => Err(e),
+    }
 }
 
 // The rest of the input: buffers of just the sizes that the input names.
-fn sheet(tokens: &mut [u8], text: &mut [u8], end: u32) {
-    if !filled(tokens) {
-        print_result(1, 0, 0);
-        return;
+fn sheet(
+    rt: &impl Print,
+    input: &mut impl Read,
+    tokens: &mut [u8],
+    text: &mut [u8],
+    end: u32,
+) -> io::Result<()> {
+    if !filled(input, tokens)? {
+        return print_result(rt, 1, 0, 0);
     }
-    if !filled(text) {
-        print_result(1, 0, 0);
-        return;
+    if !filled(input, text)? {
+        return print_result(rt, 1, 0, 0);
     }
-    print_reading(tokens, text, end);
+    print_reading(rt, tokens, text, end)
 }
 
-fn lend(tokens: &mut [u8], text: &mut [u8], size: usize, chars: usize, end: u32)
+fn lend(
+    rt: &impl Print,
+    input: &mut impl Read,
+    tokens: &mut [u8],
+    text: &mut [u8],
+    size: usize,
+    chars: usize,
+    end: u32,
+) -> io::Result<()>
     requires size_in_bounds { size ≤ length tokens.old }
     requires chars_in_bounds { chars ≤ length text.old }
 {
-    sheet(&mut tokens[..size], &mut text[..chars], end);
+    sheet(rt, input, &mut tokens[..size], &mut text[..chars], end)
 }
 
 fn token_space() -> [u8; 12288]
@@ -114,37 +132,49 @@ fn text_space() -> [u8; 8192]
 }
 
 // The limits.
-fn limited(count: u64, chars: u64, end: u32) {
+fn limited(
+    rt: &impl Print,
+    input: &mut impl Read,
+    count: u64,
+    chars: u64,
+    end: u32,
+) -> io::Result<()> {
     if 512 < count {
-        print_result(7, 0, 0);
-        return;
+        return print_result(rt, 7, 0, 0);
     }
     if 8192 < chars {
-        print_result(7, 0, 0);
-        return;
+        return print_result(rt, 7, 0, 0);
     }
     let mut tokens = token_space();
     let mut text = text_space();
     lend(
+        rt,
+        input,
         &mut tokens,
         &mut text,
         count as usize * Token::WIDTH,
         chars as usize,
         end,
-    );
+    )
 }
 
-fn begin(head: &[u8; 12]) {
+fn begin(rt: &impl Print, input: &mut impl Read, head: &[u8; 12]) -> io::Result<()> {
     let sizes = word(head, 0);
     let end = word(head, 4) % 4294967296;
-    limited(sizes / 4294967296, sizes % 4294967296, end as u32);
+    limited(
+        rt,
+        input,
+        sizes / 4294967296,
+        sizes % 4294967296,
+        end as u32,
+    )
 }
 
-fn main() {
+fn main(rt: HostRuntime) -> io::Result<()> {
+    let mut input = rt.reader();
     let mut head = [0u8; 12];
-    if !filled(&mut head) {
-        print_result(1, 0, 0);
-        return;
+    if !filled(&mut input, &mut head)? {
+        return print_result(&rt, 1, 0, 0);
     }
-    begin(&head);
+    begin(&rt, &mut input, &head)
 }
