@@ -5,7 +5,7 @@ usage: python3 tools/respell.py [--list]      at the top of the repository, once
 
 Every name that a file of specs/ or proofs/ declares is looked at.
 - Small camel case becomes snake case: sameBytes, same_bytes.
-- A dash stays where it joins two names, else it becomes an underscore: length-be4 stays, bytes-agree becomes bytes_agree.
+- A dash stays where it joins two names, else it becomes an underscore: length-be4 stays, no-dollar-word becomes no_dollar_word.
 - A value whose name begins with a capital gets a small one; these are written out below, since a type may have the same name.
 Files of specs/ and proofs/ are turned whole, .rt files, must-fail edits and pages only where such a name stands. --list prints the table and writes nothing.
 """

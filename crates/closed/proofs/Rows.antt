@@ -1,4 +1,4 @@
--- Trees that are of their sorts, hold no macro_arg and no empty name and fit the widths of the fields, one by one and in rows; and how a node
+-- Trees that are of their sorts, hold no MacroArg and no empty name and fit the widths of the fields, one by one and in rows; and how a node
 -- is made of its children. Assumes nothing.
 use Prim.Native.Nat.{ℕ, suc, ◌+◌, ◌-◌, ◌%◌, ◌≤◌, ◌<◌}
 use native.Mathlib.Omega.{arith}
@@ -32,7 +32,7 @@ pub record Narrow (h : Head) : Type 0 where
   pub word1 : h.word1 < 18446744073709551616
   pub word2 : h.word2 < 18446744073709551616
 
--- no macro_arg, no Ident without a name, and what it holds has the widths of its fields
+-- no MacroArg, no Ident without a name, and what it holds has the widths of its fields
 pub record Plain (s : Input) (h : Head) : Type 0 where
   pub no_arg : eqb h.kind macro_arg ≡ false
   pub named : h.kind ≡ kind_identifier → Nonempty h.word1

@@ -47,7 +47,7 @@ parse_expr s (suc d) = expr_in s (parse_expr s d)
 
 -- ---- if-lets
 
--- after `if_let`: a pattern and an expression
+-- after `if-let`: a pattern and an expression
 unfoldable pub parse_iflet : Input → Reader
 parse_iflet s = parent s kind_if_let 0 (parse_pattern s 64 ⊳ parse_expr s 64)
 

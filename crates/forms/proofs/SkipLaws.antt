@@ -67,7 +67,7 @@ module _ (list : List ℕ) (i m f : ℕ) (inv : i + skip m (left list i) ≡ f) 
           let o : m - 1 ≡ p = omega arith in
           rw o (omega (arith, turn p d))
 
--- ---- the first macro_arg
+-- ---- the first MacroArg
 
 kinds_of-append : (a b : List Rec) → kinds_of (a ++ b) ≡ kinds_of a ++ kinds_of b
 unfolding kinds_of
@@ -84,7 +84,7 @@ mutual
   kinds-trees ∅ = refl
   kinds-trees (t ▸ ts) = kinds_of-append (records t) (records_all ts) ∙ ap₂ ◌++◌ (kinds-tree t) (kinds-trees ts)
 
--- the list's first macro_arg is the trees'
+-- the list's first MacroArg is the trees'
 pub macro_arg_agrees : (ts : Trees) (rs : List Rec) → records_all ts ≡ rs → first_macro_arg rs ≡ first_is macro_arg (kinds_all ts)
 macro_arg_agrees ts rs e = ap first_macro_arg (sym e) ∙ ap (first_is macro_arg) (kinds-trees ts)
 

@@ -173,7 +173,7 @@ rows =
     ∷ row 36 pattern no_flags pos empty none none none none none
     -- 37 And (patterns)
     ∷ row 37 pattern no_flags pos empty none none none pattern none
-    -- 38 macro_arg (word 1 index)
+    -- 38 MacroArg (word 1 index)
     ∷ row 38 pattern no_flags pos index none none none none none
     -- Expressions: 40 Term (name, expressions)
     ∷ row 40 expression no_flags pos empty name none none expression none

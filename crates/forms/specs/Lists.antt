@@ -1,4 +1,4 @@
--- Scans of a list of records: the records from an index on, passing trees, the first macro_arg.
+-- Scans of a list of records: the records from an index on, passing trees, the first MacroArg.
 use Rattle.std.specs.Prelude.{ℕ, zero, suc, ◌+◌, ◌-◌, List, [], ◌∷◌, ◌++◌, eqb}
 use Rattle.trees.specs.declared.Rec.{Rec}
 use Rattle.trees.specs.Choice.{pick}
@@ -36,6 +36,6 @@ kinds_of (r ∷ rs) = r.kind ∷ kinds_of rs
 abbrev pub macro_arg : ℕ
 macro_arg = 38
 
--- the index of the first macro_arg, or the length
+-- the index of the first MacroArg, or the length
 abbrev pub first_macro_arg : List Rec → ℕ
 first_macro_arg rs = first_is macro_arg (kinds_of rs)

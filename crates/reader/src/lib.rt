@@ -1,6 +1,5 @@
-// The tokens through a reader that borrows their bytes, as the Rust's parser holds its lexer. The functions over it are thin, each
-// proved by a walk of its MIR by hand; below them `tokens::token_at` does the work, above them stand functions with plain
-// parameters, so that whoever calls those needs no walk.
+// The tokens through a reader that borrows their bytes, as the Rust's parser holds its lexer. The functions over it are thin:
+// below them `tokens::token_at` does the work, above them stand functions with plain parameters.
 #![tactic(auto)]
 
 ghost use Rattle.std.specs.Prelude.{◌≡◌, ℕ, ◌+◌, ◌<◌, ◌^◌};

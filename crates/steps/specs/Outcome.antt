@@ -141,7 +141,7 @@ refuse_after s kind code = λ i.
     (λ _. refuse (refusal code (pos_at s i) (i + 1)))
     (λ _. refuse (unexpected (peek s i) i))
 
--- the token at index i, which stands at pos, as an ident_node of this range, or the refusal c where that is not 0
+-- the token at index i, which stands at pos, as an Ident of this range, or the refusal c where that is not 0
 unfoldable pub ident_at : ℕ → ℕ → ℕ → Reader
 ident_at pos range c i = pick (eqb c 0) (accept (ident_node pos range ▸ ∅) (i + 1)) (refuse (refusal c pos (i + 1)))
 

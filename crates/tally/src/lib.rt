@@ -1,6 +1,5 @@
 // Records are written, and counted, through a tally that is lent and advanced in place, as the Rust's parser is. `Tally::emit` and
-// `emit_within` are thin, each proved by a walk of its MIR by hand; below them `put_within` does the work, above them `emit_at` has plain
-// parameters, so that whoever calls it needs no walk.
+// `emit_within` are thin: below them `put_within` does the work, above them `emit_at` has plain parameters.
 #![tactic(auto)]
 
 ghost use Rattle.std.specs.Prelude.{◌≡◌, ℕ, ◌+◌, ◌<◌};
