@@ -125,6 +125,8 @@ def imports(text, crate, module):
 def main():
     root = os.getcwd()
     decl, rename = table(root)
+    if "TypeDef" not in decl:
+        sys.exit("the names have this spelling already: nothing is done")
     clash = {}
     for n, new in rename.items():
         if new in decl:
