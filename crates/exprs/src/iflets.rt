@@ -11,7 +11,7 @@ use patterns::parse_pattern;
 use steps::{
     Parsed, close_at, expect_lparen, expect_rparen, expect_word, inside, next_token, second_token,
 };
-use trees::Head;
+use trees::Kind;
 
 // After `if-let`: a pattern and an expression.
 fn parse_iflet(tokens: &[u8], text: &[u8], end: u32, out: &mut [u8], p: Parsed) -> Parsed
@@ -20,7 +20,7 @@ fn parse_iflet(tokens: &[u8], text: &[u8], end: u32, out: &mut [u8], p: Parsed) 
 {
     let pattern = parse_pattern(tokens, text, end, out, inside(p), 64);
     let q = parse_expr(tokens, text, end, out, pattern, 64);
-    close_at(tokens, end, out, p, Head::IF_LET, 0, q)
+    close_at(tokens, end, out, p, Kind::IfLet as u8, 0, q)
 }
 
 // After `if`: an expression, with a wildcard for the pattern.
@@ -30,9 +30,9 @@ fn parse_iflet_if(tokens: &[u8], text: &[u8], end: u32, out: &mut [u8], p: Parse
 {
     let children = inside(p);
     let leaf = inside(children);
-    let wildcard = close_at(tokens, end, out, children, Head::PATTERN_WILDCARD, 0, leaf);
+    let wildcard = close_at(tokens, end, out, children, Kind::PatternWildcard as u8, 0, leaf);
     let q = parse_expr(tokens, text, end, out, wildcard, 64);
-    close_at(tokens, end, out, p, Head::IF_LET, 0, q)
+    close_at(tokens, end, out, p, Kind::IfLet as u8, 0, q)
 }
 
 // An if-let, or the expression that ends a rule.

@@ -16,7 +16,7 @@ use steps::{
     put_leaf, refuse_at, second_token,
 };
 use tokens::Token;
-use trees::Head;
+use trees::{Head, Kind};
 
 // The expression at p, of at most this depth.
 #[cycle(expr)]
@@ -40,20 +40,20 @@ pub fn parse_expr(
         return parse_expr_inner_parens(tokens, text, end, out, q, depth - 1, t);
     }
     if t.is_const(text) {
-        return const_node_of(tokens, text, end, out, q, Head::EXPR_CONST, t);
+        return const_node_of(tokens, text, end, out, q, Kind::ExprConstPrim as u8, t);
     }
     if t.is_word(text, b"true") {
-        return leaf_of(tokens, end, out, q, Head::EXPR_BOOL, 1, t);
+        return leaf_of(tokens, end, out, q, Kind::ExprConstBool as u8, 1, t);
     }
     if t.is_word(text, b"false") {
-        return leaf_of(tokens, end, out, q, Head::EXPR_BOOL, 0, t);
+        return leaf_of(tokens, end, out, q, Kind::ExprConstBool as u8, 0, t);
     }
     if t.is_symbol() {
-        return ident_node_of(tokens, text, end, out, q, Head::EXPR_VAR, t);
+        return ident_node_of(tokens, text, end, out, q, Kind::ExprVar as u8, t);
     }
     if t.is_int() {
         let h = Head {
-            kind: Head::EXPR_INT,
+            kind: Kind::ExprConstInt as u8,
             flags: 0,
             pos: t.pos,
             word1: t.word1,
@@ -83,12 +83,12 @@ fn parse_expr_inner_parens(
     let open = expect_lparen_of(tokens, end, inside(p), t);
     if u.is_word(text, b"let") {
         let q = parse_let(tokens, text, end, out, open, depth);
-        return close_of(tokens, end, out, p, Head::EXPR_LET, 0, q, t);
+        return close_of(tokens, end, out, p, Kind::ExprLet as u8, 0, q, t);
     }
     let name = parse_ident(tokens, text, end, out, open);
     let list = parse_exprs(tokens, text, end, out, name, depth);
     let q = expect_rparen(tokens, end, list);
-    close_of(tokens, end, out, p, Head::EXPR_TERM, 0, q, t)
+    close_of(tokens, end, out, p, Kind::ExprTerm as u8, 0, q, t)
 }
 
 // The inside of a let: `let (definitions) body)`.
@@ -130,7 +130,7 @@ fn parse_letdef(
     let ty = parse_ident(tokens, text, end, out, name);
     let value = parse_expr(tokens, text, end, out, ty, depth);
     let q = expect_rparen(tokens, end, value);
-    close_at(tokens, end, out, p, Head::LET_DEF, 0, q)
+    close_at(tokens, end, out, p, Kind::LetDef as u8, 0, q)
 }
 
 // Let definitions up to a `)`, which is left.

@@ -5,7 +5,7 @@ ghost use Rattle.names.specs.Order.{Some};
 
 use crate::order::mark;
 use records::rec_at;
-use trees::Head;
+use trees::Kind;
 
 // Marks the length of the name at slot j.
 fn mark_name(text: &[u8], src: &[u8], j: usize, marks: &mut [u8]) {
@@ -16,7 +16,7 @@ fn mark_name(text: &[u8], src: &[u8], j: usize, marks: &mut [u8]) {
 
 fn is_wildcard(src: &[u8], j: usize) -> bool {
     if j < src.len() / 24 {
-        return rec_at(src, j).kind == Head::PATTERN_WILDCARD;
+        return rec_at(src, j).kind == Kind::PatternWildcard as u8;
     }
     false
 }
@@ -26,11 +26,11 @@ fn mark_at(text: &[u8], src: &[u8], k: usize, marks: &mut [u8])
     requires { k < slots src.now }
 {
     let r = rec_at(src, k);
-    if r.kind == Head::PATTERN_VAR {
+    if r.kind == Kind::PatternVar as u8 {
         mark_name(text, src, k + 1, marks);
         return;
     }
-    if r.kind != Head::PATTERN_BIND {
+    if r.kind != Kind::PatternBind as u8 {
         return;
     }
     let over = is_wildcard(src, k + 2);

@@ -9,7 +9,7 @@ ghost use Rattle.opening.specs.Made.{params_at, Params, Located, Makeable, Calla
 use crate::ends::end_at;
 use judging::names::{look_up, same_name};
 use records::rec_at;
-use trees::{Head, Rec};
+use trees::{Kind, Rec};
 
 // A record that is written, and the index of the source at which to go on.
 #[derive(Clone, Copy)]
@@ -40,16 +40,16 @@ fn stands_at(text: &[u8], src: &[u8], pa: usize, pc: usize, k: usize) -> usize
     ensures { Sought pc (stands_at text.now (params_at src.now pa pc) (rec_at src.now k) (drop (k + 1) (recs src.now))) result }
 {
     let r = rec_at(src, k);
-    if r.kind == Head::PATTERN_VAR {
+    if r.kind == Kind::PatternVar as u8 {
         let name = rec_at(src, k + 1);
         return parameter(text, src, pa, pc, name.word1);
     }
-    if r.kind != Head::PATTERN_BIND {
+    if r.kind != Kind::PatternBind as u8 {
         return pc;
     }
     let name = rec_at(src, k + 1);
     let below = rec_at(src, k + 2);
-    if below.kind != Head::PATTERN_WILDCARD {
+    if below.kind != Kind::PatternWildcard as u8 {
         return pc;
     }
     parameter(text, src, pa, pc, name.word1)
@@ -64,7 +64,7 @@ pub fn made_at(text: &[u8], src: &[u8], ends: &[u32], pa: usize, pc: usize, k: u
     let j = stands_at(text, src, pa, pc, k);
     if j < pc {
         let arg = Rec {
-            kind: Head::PATTERN_MACRO_ARG,
+            kind: Kind::PatternMacroArg as u8,
             flags: 0,
             count: 0,
             pos: r.pos,
@@ -89,7 +89,7 @@ pub fn call_at(text: &[u8], table: &[u64], n: usize, src: &[u8], k: usize) -> us
     ensures { (result ≡ call_number text.now table.now n src.now k) × (result ≤ n) }
 {
     let r = rec_at(src, k);
-    if r.kind != Head::PATTERN_TERM {
+    if r.kind != Kind::PatternTerm as u8 {
         return n;
     }
     let name = rec_at(src, k + 1);

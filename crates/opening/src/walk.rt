@@ -6,7 +6,7 @@ ghost use Rattle.opening.specs.Walk.{Readied, Room, Fillable, Opened, Filled};
 use crate::ends::{child_at, end_at};
 use crate::made::{call_at, made_at};
 use records::{put, rec_at};
-use trees::{Head, Rec};
+use trees::{Kind, Rec};
 
 // Appends the record r after n of them, if there is space for it: how many there are then, or space + 1.
 fn append(store: &mut [u8], out: &mut [u8], outward: bool, n: usize, space: usize, r: Rec) -> usize
@@ -53,7 +53,7 @@ fn scan(
     let mut last = 0;
     while j < end {
         let r = rec_at(store, j);
-        if r.kind == Head::PATTERN_MACRO_ARG {
+        if r.kind == Kind::PatternMacroArg as u8 {
             let c = r.word1 as usize + 1;
             from = child_at(src, ends, k, from, last, c);
             last = c;

@@ -11,8 +11,8 @@ use steps::{
     Parsed, close, close_at, eat, eaten, expect_lparen, expect_rparen, expect_word, goes_on,
     inside, next_token, parse_ident, refuse_after, second_token,
 };
-use tokens::Token;
-use trees::Head;
+use tokens::TokenKind;
+use trees::{Head, Kind};
 
 // A record without position and children, of the one word w.
 fn word_kind(
@@ -44,12 +44,12 @@ fn parse_attr_kind_veri(tokens: &[u8], text: &[u8], end: u32, out: &mut [u8], p:
 {
     let t = next_token(tokens, end, p);
     if t.is_word(text, b"chain") {
-        return word_kind(tokens, text, end, out, p, Head::ATTR_CHAIN, b"chain");
+        return word_kind(tokens, text, end, out, p, Kind::AttrKindChain as u8, b"chain");
     }
     if t.is_word(text, b"priority") {
-        return word_kind(tokens, text, end, out, p, Head::ATTR_PRIORITY, b"priority");
+        return word_kind(tokens, text, end, out, p, Kind::AttrKindPriority as u8, b"priority");
     }
-    refuse_after(tokens, text, end, p, Token::SYMBOL, 21)
+    refuse_after(tokens, text, end, p, TokenKind::Symbol as u8, 21)
 }
 
 // `(veri ..)`
@@ -71,7 +71,7 @@ fn tag_name(tokens: &[u8], text: &[u8], end: u32, out: &mut [u8], p: Parsed) -> 
     let children = inside(p);
     let q = parse_ident(tokens, text, end, out, children);
     let h = Head {
-        kind: Head::ATTR_TAG,
+        kind: Kind::AttrKindTag as u8,
         flags: 0,
         pos: 0,
         word1: 0,
@@ -103,7 +103,7 @@ fn parse_attr_kind(tokens: &[u8], text: &[u8], end: u32, out: &mut [u8], p: Pars
         return attr_tag(tokens, text, end, out, p);
     }
     let open = expect_lparen(tokens, end, p);
-    refuse_after(tokens, text, end, open, Token::SYMBOL, 20)
+    refuse_after(tokens, text, end, open, TokenKind::Symbol as u8, 20)
 }
 
 fn attr_kind_row(tokens: &[u8], text: &[u8], end: u32, out: &mut [u8], p: Parsed) -> Parsed
@@ -126,5 +126,5 @@ pub fn parse_attr(tokens: &[u8], text: &[u8], end: u32, out: &mut [u8], p: Parse
     let word = eat(tokens, text, end, inside(p), b"rule");
     let target = parse_ident(tokens, text, end, out, word);
     let q = attr_kind_row(tokens, text, end, out, target);
-    close_at(tokens, end, out, p, Head::ATTR, flags, q)
+    close_at(tokens, end, out, p, Kind::Attr as u8, flags, q)
 }

@@ -14,7 +14,7 @@ use steps::{
     Parsed, ate_of, close_at, eat, eaten_second, expect_lparen, expect_rparen, expect_word, inside,
     next_token, parse_const, parse_ident, parse_idents, parse_pragma_name, refuse_at, token_after,
 };
-use trees::Head;
+use trees::Kind;
 
 #[derive(Clone, Copy)]
 struct Eaten {
@@ -80,7 +80,7 @@ pub fn parse_decl(tokens: &[u8], text: &[u8], end: u32, out: &mut [u8], p: Parse
     let m = decl_state(tokens, text, end, p);
     let state = m.state;
     let q = decl_names(tokens, text, end, out, state);
-    close_at(tokens, end, out, p, Head::DECL, m.flags, q)
+    close_at(tokens, end, out, p, Kind::Decl as u8, m.flags, q)
 }
 
 // The names of a declaration: the term, its argument types, its result.
@@ -103,7 +103,7 @@ fn extern_constructor(tokens: &[u8], text: &[u8], end: u32, out: &mut [u8], p: P
     let word = expect_word(tokens, text, end, inside(p), b"constructor");
     let term = parse_ident(tokens, text, end, out, word);
     let q = parse_ident(tokens, text, end, out, term);
-    close_at(tokens, end, out, p, Head::EXTERN_CONSTRUCTOR, 0, q)
+    close_at(tokens, end, out, p, Kind::ExternConstructor as u8, 0, q)
 }
 
 // `extractor infallible term func`, infallible or not
@@ -116,7 +116,7 @@ fn extern_extractor(tokens: &[u8], text: &[u8], end: u32, out: &mut [u8], p: Par
     let ate = eat(tokens, text, end, word, b"infallible");
     let term = parse_ident(tokens, text, end, out, ate);
     let q = parse_ident(tokens, text, end, out, term);
-    close_at(tokens, end, out, p, Head::EXTERN_EXTRACTOR, flags, q)
+    close_at(tokens, end, out, p, Kind::ExternExtractor as u8, flags, q)
 }
 
 // A constant's name and type.
@@ -127,7 +127,7 @@ fn extern_const(tokens: &[u8], text: &[u8], end: u32, out: &mut [u8], p: Parsed)
     let children = inside(p);
     let name = parse_const(tokens, text, end, out, children);
     let q = parse_ident(tokens, text, end, out, name);
-    close_at(tokens, end, out, p, Head::EXTERN_CONST, 0, q)
+    close_at(tokens, end, out, p, Kind::ExternConst as u8, 0, q)
 }
 
 // After `extern`.
@@ -157,7 +157,7 @@ pub fn parse_etor(tokens: &[u8], text: &[u8], end: u32, out: &mut [u8], p: Parse
     let children = inside(p);
     let head = etor_head(tokens, text, end, out, children);
     let q = parse_pattern(tokens, text, end, out, head, 64);
-    close_at(tokens, end, out, p, Head::EXTRACTOR, 0, q)
+    close_at(tokens, end, out, p, Kind::Extractor as u8, 0, q)
 }
 
 // `(term parameters)`
@@ -180,7 +180,7 @@ pub fn parse_converter(tokens: &[u8], text: &[u8], end: u32, out: &mut [u8], p: 
     let inner = parse_ident(tokens, text, end, out, children);
     let outer = parse_ident(tokens, text, end, out, inner);
     let q = parse_ident(tokens, text, end, out, outer);
-    close_at(tokens, end, out, p, Head::CONVERTER, 0, q)
+    close_at(tokens, end, out, p, Kind::Converter as u8, 0, q)
 }
 
 // After `pragma`: a name, and no pragma is known.

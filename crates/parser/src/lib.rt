@@ -19,7 +19,7 @@ use attrs::parse_attr;
 use decls::{parse_converter, parse_decl, parse_etor, parse_extern, parse_pragma};
 use rules::parse_rule;
 use steps::{Parsed, expect_lparen, expect_rparen, expect_word_of, refuse_after, second_token};
-use tokens::Token;
+use tokens::{Token, TokenKind};
 use types::parse_type;
 
 // The definitions, each by its second token u, the word that it starts with.
@@ -148,9 +148,9 @@ fn other_def(tokens: &[u8], text: &[u8], end: u32, p: Parsed, u: Token) -> Parse
 {
     let open = expect_lparen(tokens, end, p);
     if is_uncovered(u, text) {
-        return refuse_after(tokens, text, end, open, Token::SYMBOL, 27);
+        return refuse_after(tokens, text, end, open, TokenKind::Symbol as u8, 27);
     }
-    refuse_after(tokens, text, end, open, Token::SYMBOL, 12)
+    refuse_after(tokens, text, end, open, TokenKind::Symbol as u8, 12)
 }
 
 // A definition by the word after its `(`: the less frequent words.

@@ -15,8 +15,8 @@ use steps::{
     Parsed, Refusal, close_at, inside, next_token, parse_name_or, put_leaf, refuse_after,
     second_token,
 };
-use tokens::Token;
-use trees::Head;
+use tokens::TokenKind;
+use trees::{Head, Kind};
 
 // The first symbol after `rule` is its name, and a refusal of the token behind it is one of the name.
 fn rule_name(tokens: &[u8], text: &[u8], end: u32, out: &mut [u8], p: Parsed) -> Parsed
@@ -27,7 +27,7 @@ fn rule_name(tokens: &[u8], text: &[u8], end: u32, out: &mut [u8], p: Parsed) ->
     if t.is_symbol() {
         let u = second_token(tokens, end, p);
         if u.is_refused() {
-            return refuse_after(tokens, text, end, p, Token::SYMBOL, 23);
+            return refuse_after(tokens, text, end, p, TokenKind::Symbol as u8, 23);
         }
         return parse_name_or(tokens, text, end, out, p, 23);
     }
@@ -59,7 +59,7 @@ fn rule_priority(
     if t.is_int() {
         if is_i64(t.word1, t.word2) {
             let h = Head {
-                kind: Head::PRIORITY,
+                kind: Kind::Priority as u8,
                 flags: 0,
                 pos: 0,
                 word1: t.word2,
@@ -128,7 +128,7 @@ pub fn parse_rule(tokens: &[u8], text: &[u8], end: u32, out: &mut [u8], p: Parse
     let flags = rule_flags(tokens, text, end, p);
     let place = next_token(tokens, end, p).pos;
     let q = rule_parts(tokens, text, end, out, inside(p), place);
-    close_at(tokens, end, out, p, Head::RULE, flags, q)
+    close_at(tokens, end, out, p, Kind::Rule as u8, flags, q)
 }
 
 // What a rule is made of; 24 stands at `place`.

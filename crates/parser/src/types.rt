@@ -14,8 +14,8 @@ use steps::{
     Parsed, Refusal, close, close_at, expect_lparen, expect_rparen, expect_word, goes_on, inside,
     next_token, parse_ident, refuse_after, second_token,
 };
-use tokens::Token;
-use trees::Head;
+use tokens::{Token, TokenKind};
+use trees::{Head, Kind};
 
 // `(name type)`
 fn parse_struct_field(tokens: &[u8], text: &[u8], end: u32, out: &mut [u8], p: Parsed) -> Parsed
@@ -26,7 +26,7 @@ fn parse_struct_field(tokens: &[u8], text: &[u8], end: u32, out: &mut [u8], p: P
     let name = parse_ident(tokens, text, end, out, open);
     let ty = parse_ident(tokens, text, end, out, name);
     let q = expect_rparen(tokens, end, ty);
-    close_at(tokens, end, out, p, Head::STRUCT_FIELD, 0, q)
+    close_at(tokens, end, out, p, Kind::StructField as u8, 0, q)
 }
 
 fn struct_field_row(tokens: &[u8], text: &[u8], end: u32, out: &mut [u8], p: Parsed) -> Parsed
@@ -46,7 +46,7 @@ fn parse_struct_fields(tokens: &[u8], text: &[u8], end: u32, out: &mut [u8], p: 
 {
     let children = inside(p);
     let q = struct_field_row(tokens, text, end, out, children);
-    close_at(tokens, end, out, p, Head::FIELDS_STRUCT, 0, q)
+    close_at(tokens, end, out, p, Kind::FieldsStruct as u8, 0, q)
 }
 
 // A type; its index is how many stand before it.
@@ -66,7 +66,7 @@ fn parse_tuple_field(tokens: &[u8], text: &[u8], end: u32, out: &mut [u8], p: Pa
     let children = inside(p);
     let q = parse_ident(tokens, text, end, out, children);
     let h = Head {
-        kind: Head::TUPLE_FIELD,
+        kind: Kind::TupleField as u8,
         flags: 0,
         pos,
         word1: items as u64,
@@ -92,7 +92,7 @@ fn parse_tuple_fields(tokens: &[u8], text: &[u8], end: u32, out: &mut [u8], p: P
 {
     let children = inside(p);
     let q = tuple_field_row(tokens, text, end, out, children);
-    close_at(tokens, end, out, p, Head::FIELDS_TUPLE, 0, q)
+    close_at(tokens, end, out, p, Kind::FieldsTuple as u8, 0, q)
 }
 
 // No fields, which take no token.
@@ -101,7 +101,7 @@ fn unit_fields(out: &mut [u8], p: Parsed) -> Parsed
     ensures { Chained (bare kind_fields_unit nothing) p out.old out.new result }
 {
     let h = Head {
-        kind: Head::FIELDS_UNIT,
+        kind: Kind::FieldsUnit as u8,
         flags: 0,
         pos: 0,
         word1: 0,
@@ -133,7 +133,7 @@ fn variant_parens(tokens: &[u8], text: &[u8], end: u32, out: &mut [u8], p: Parse
     let name = parse_ident(tokens, text, end, out, open);
     let fields = parse_fields(tokens, text, end, out, name);
     let q = expect_rparen(tokens, end, fields);
-    close_at(tokens, end, out, p, Head::VARIANT, 0, q)
+    close_at(tokens, end, out, p, Kind::Variant as u8, 0, q)
 }
 
 fn variant_unit(tokens: &[u8], text: &[u8], end: u32, out: &mut [u8], p: Parsed) -> Parsed
@@ -143,7 +143,7 @@ fn variant_unit(tokens: &[u8], text: &[u8], end: u32, out: &mut [u8], p: Parsed)
     let children = inside(p);
     let name = parse_ident(tokens, text, end, out, children);
     let q = unit_fields(out, name);
-    close_at(tokens, end, out, p, Head::VARIANT, 0, q)
+    close_at(tokens, end, out, p, Kind::Variant as u8, 0, q)
 }
 
 fn parse_type_variant(tokens: &[u8], text: &[u8], end: u32, out: &mut [u8], p: Parsed) -> Parsed
@@ -177,7 +177,7 @@ fn value_primitive(tokens: &[u8], text: &[u8], end: u32, out: &mut [u8], p: Pars
     let word = expect_word(tokens, text, end, open, b"primitive");
     let name = parse_ident(tokens, text, end, out, word);
     let q = expect_rparen(tokens, end, name);
-    close_at(tokens, end, out, p, Head::PRIMITIVE, 0, q)
+    close_at(tokens, end, out, p, Kind::TypeValuePrimitive as u8, 0, q)
 }
 
 // `(enum variants)`
@@ -189,7 +189,7 @@ fn value_enum(tokens: &[u8], text: &[u8], end: u32, out: &mut [u8], p: Parsed) -
     let word = expect_word(tokens, text, end, open, b"enum");
     let variants = variant_row(tokens, text, end, out, word);
     let q = expect_rparen(tokens, end, variants);
-    close_at(tokens, end, out, p, Head::ENUM, 0, q)
+    close_at(tokens, end, out, p, Kind::TypeValueEnum as u8, 0, q)
 }
 
 // `(struct fields)`
@@ -201,7 +201,7 @@ fn value_struct(tokens: &[u8], text: &[u8], end: u32, out: &mut [u8], p: Parsed)
     let word = expect_word(tokens, text, end, open, b"struct");
     let fields = parse_fields(tokens, text, end, out, word);
     let q = expect_rparen(tokens, end, fields);
-    close_at(tokens, end, out, p, Head::STRUCT, 0, q)
+    close_at(tokens, end, out, p, Kind::TypeValueStruct as u8, 0, q)
 }
 
 fn parse_typevalue(tokens: &[u8], text: &[u8], end: u32, out: &mut [u8], p: Parsed) -> Parsed
@@ -218,7 +218,7 @@ fn parse_typevalue(tokens: &[u8], text: &[u8], end: u32, out: &mut [u8], p: Pars
     if u.is_word(text, b"struct") {
         return value_struct(tokens, text, end, out, p);
     }
-    refuse_after(tokens, text, end, p, Token::LPAREN, 19)
+    refuse_after(tokens, text, end, p, TokenKind::LParen as u8, 19)
 }
 
 // What the modifiers after a type's name are: their flags and the index after them.
@@ -334,5 +334,5 @@ pub fn parse_type(tokens: &[u8], text: &[u8], end: u32, out: &mut [u8], p: Parse
     let name = parse_ident(tokens, text, end, out, inside(p));
     let after = pass_modifiers(tokens, end, name, m.next);
     let q = parse_typevalue(tokens, text, end, out, after);
-    close_at(tokens, end, out, p, Head::TYPE, m.flags, q)
+    close_at(tokens, end, out, p, Kind::TypeDef as u8, m.flags, q)
 }

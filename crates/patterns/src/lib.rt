@@ -15,8 +15,8 @@ use steps::{
     expect_word, goes_on, ident_node_of, inside, leaf_of, next_token, parse_ident, put_leaf,
     refuse_at, second_kind, second_token,
 };
-use tokens::Token;
-use trees::Head;
+use tokens::{Token, TokenKind};
+use trees::{Head, Kind};
 
 // The pattern at p, of at most this depth.
 #[cycle(pattern)]
@@ -38,7 +38,7 @@ pub fn parse_pattern(
     let t = next_token(tokens, end, q);
     if t.is_int() {
         let h = Head {
-            kind: Head::PATTERN_INT,
+            kind: Kind::PatternConstInt as u8,
             flags: 0,
             pos: t.pos,
             word1: t.word1,
@@ -47,16 +47,16 @@ pub fn parse_pattern(
         return put_leaf(tokens, out, q, h);
     }
     if t.is_const(text) {
-        return const_node_of(tokens, text, end, out, q, Head::PATTERN_CONST, t);
+        return const_node_of(tokens, text, end, out, q, Kind::PatternConstPrim as u8, t);
     }
     if t.is_word(text, b"_") {
-        return leaf_of(tokens, end, out, q, Head::PATTERN_WILDCARD, 0, t);
+        return leaf_of(tokens, end, out, q, Kind::PatternWildcard as u8, 0, t);
     }
     if t.is_word(text, b"true") {
-        return leaf_of(tokens, end, out, q, Head::PATTERN_BOOL, 1, t);
+        return leaf_of(tokens, end, out, q, Kind::PatternConstBool as u8, 1, t);
     }
     if t.is_word(text, b"false") {
-        return leaf_of(tokens, end, out, q, Head::PATTERN_BOOL, 0, t);
+        return leaf_of(tokens, end, out, q, Kind::PatternConstBool as u8, 0, t);
     }
     parse_compound(tokens, text, end, out, q, depth - 1, t)
 }
@@ -77,10 +77,10 @@ fn parse_compound(
     ensures { Chained (compound (input tokens.now text.now end) (parse_pattern (input tokens.now text.now end) depth)) p out.old out.new result }
 {
     if t.is_symbol() {
-        if second_kind(tokens, end, p) == Token::AT {
+        if second_kind(tokens, end, p) == TokenKind::At as u8 {
             return parse_bind(tokens, text, end, out, p, depth, t);
         }
-        return ident_node_of(tokens, text, end, out, p, Head::PATTERN_VAR, t);
+        return ident_node_of(tokens, text, end, out, p, Kind::PatternVar as u8, t);
     }
     if t.is_lparen() {
         let u = second_token(tokens, end, p);
@@ -110,7 +110,7 @@ fn parse_bind(
     let name = parse_ident(tokens, text, end, out, inside(p));
     let at = expect_at(tokens, end, name);
     let q = parse_pattern(tokens, text, end, out, at, depth);
-    close_of(tokens, end, out, p, Head::PATTERN_BIND, 0, q, t)
+    close_of(tokens, end, out, p, Kind::PatternBind as u8, 0, q, t)
 }
 
 // `(and ..)`
@@ -132,7 +132,7 @@ fn parse_and(
     let word = expect_word(tokens, text, end, open, b"and");
     let list = parse_patterns(tokens, text, end, out, word, depth);
     let q = expect_rparen(tokens, end, list);
-    close_of(tokens, end, out, p, Head::PATTERN_AND, 0, q, t)
+    close_of(tokens, end, out, p, Kind::PatternAnd as u8, 0, q, t)
 }
 
 // `(term ..)`
@@ -154,7 +154,7 @@ fn parse_term(
     let name = parse_ident(tokens, text, end, out, open);
     let list = parse_patterns(tokens, text, end, out, name, depth);
     let q = expect_rparen(tokens, end, list);
-    close_of(tokens, end, out, p, Head::PATTERN_TERM, 0, q, t)
+    close_of(tokens, end, out, p, Kind::PatternTerm as u8, 0, q, t)
 }
 
 // Patterns up to a `)`, which is left.

@@ -14,8 +14,8 @@ ghost use Rattle.steps.specs.Met.{Met, Chained, moved, inside, Closed, Leafed, t
 use reader::{after, peek, peek_second};
 use tally::emit_at;
 use tokens::names::{first_byte, ident_refusal, spelling};
-use tokens::{Token, kind_at, pos_at};
-use trees::{Head, Rec};
+use tokens::{Token, TokenKind, kind_at, pos_at};
+use trees::{Head, Kind, Rec};
 
 // Where reading stopped, and why: document 01's number and place, and how many tokens were consumed.
 #[derive(Clone, Copy)]
@@ -58,7 +58,7 @@ pub fn again(p: Parsed) -> Parsed
 fn unexpected(t: Token, at: usize) -> Refusal
     ensures { result ≡ unexpected t at }
 {
-    if t.kind == Token::NONE {
+    if t.kind == TokenKind::Nothing as u8 {
         return Refusal {
             code: 11,
             place: t.pos,
@@ -94,7 +94,7 @@ fn expect_kind(tokens: &[u8], end: u32, p: Parsed, kind: u8) -> Parsed
 pub fn expect_lparen(tokens: &[u8], end: u32, p: Parsed) -> Parsed
     ensures { result ≡ moved (expect_at tokens.now end is_lparen) p }
 {
-    expect_kind(tokens, end, p, Token::LPAREN)
+    expect_kind(tokens, end, p, TokenKind::LParen as u8)
 }
 
 // expect_lparen by the next token t, which its caller has read already.
@@ -119,13 +119,13 @@ pub fn expect_lparen_of(tokens: &[u8], end: u32, p: Parsed, t: Token) -> Parsed
 pub fn expect_rparen(tokens: &[u8], end: u32, p: Parsed) -> Parsed
     ensures { result ≡ moved (expect_at tokens.now end is_rparen) p }
 {
-    expect_kind(tokens, end, p, Token::RPAREN)
+    expect_kind(tokens, end, p, TokenKind::RParen as u8)
 }
 
 pub fn expect_at(tokens: &[u8], end: u32, p: Parsed) -> Parsed
     ensures { result ≡ moved (expect_at tokens.now end is_at) p }
 {
-    expect_kind(tokens, end, p, Token::AT)
+    expect_kind(tokens, end, p, TokenKind::At as u8)
 }
 
 // eat_sym_str of the Rust, where the symbol w is known to stand.
@@ -207,7 +207,7 @@ pub fn second_kind(tokens: &[u8], end: u32, p: Parsed) -> u8
         items: _,
     } = p
     else {
-        return Token::NONE;
+        return TokenKind::Nothing as u8;
     };
     kind_at(tokens, after(tokens, next))
 }
@@ -231,7 +231,7 @@ fn past_last(end: u32) -> Token
     ensures { result ≡ past_last end }
 {
     Token {
-        kind: Token::NONE,
+        kind: TokenKind::Nothing as u8,
         pos: end,
         word1: 0,
         word2: 0,
@@ -250,7 +250,7 @@ pub fn goes_on(tokens: &[u8], end: u32, p: Parsed) -> bool
     else {
         return false;
     };
-    kind_at(tokens, next) != Token::RPAREN
+    kind_at(tokens, next) != TokenKind::RParen as u8
 }
 
 // 0 where s is an identifier that starts with `$` and goes on, and otherwise the refusal.
@@ -318,7 +318,7 @@ fn put_ident(
         out,
         n,
         Rec {
-            kind: Head::IDENT,
+            kind: Kind::Ident as u8,
             flags: 0,
             count: 0,
             pos,

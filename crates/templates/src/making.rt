@@ -10,7 +10,7 @@ use crate::Answer;
 use crate::scans::{append, first_arg, settle, space_for};
 use records::rec_at;
 use tokens::names::spelling;
-use trees::{Head, Rec};
+use trees::{Kind, Rec};
 use words::same;
 
 // The index of a parameter, or none.
@@ -61,7 +61,7 @@ fn wildcard_at(pattern: &[u8], j: usize) -> bool
     ensures { result ≡ wildcard_at pattern.now j }
 {
     if j < pattern.len() / 24 {
-        return rec_at(pattern, j).kind == Head::PATTERN_WILDCARD;
+        return rec_at(pattern, j).kind == Kind::PatternWildcard as u8;
     }
     false
 }
@@ -73,10 +73,10 @@ fn parameter_at(text: &[u8], pattern: &[u8], i: usize, params: &[u8]) -> Found
     ensures { option_of result ≡ parameter_at text.now pattern.now i params.now }
 {
     let r = rec_at(pattern, i);
-    if r.kind == Head::PATTERN_VAR {
+    if r.kind == Kind::PatternVar as u8 {
         return named_at(text, pattern, i + 1, params);
     }
-    if r.kind != Head::PATTERN_BIND {
+    if r.kind != Kind::PatternBind as u8 {
         return Found::Nothing;
     }
     if wildcard_at(pattern, i + 2) {
@@ -90,7 +90,7 @@ fn after_parameter(kind: u8, i: usize) -> usize
     requires { i ≤ 65536 }
     ensures { result ≡ after_parameter kind i }
 {
-    if kind == Head::PATTERN_VAR {
+    if kind == Kind::PatternVar as u8 {
         return i + 2;
     }
     i + 3
@@ -101,7 +101,7 @@ fn argument(pos: u32, k: usize) -> Rec
     ensures { result ≡ argument pos k }
 {
     Rec {
-        kind: Head::PATTERN_MACRO_ARG,
+        kind: Kind::PatternMacroArg as u8,
         flags: 0,
         count: 0,
         pos,

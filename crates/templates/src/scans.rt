@@ -6,7 +6,7 @@ ghost use Rattle.templates.specs.Writing.{Wrote, slice};
 
 use crate::Answer;
 use records::{put, rec_at};
-use trees::{Head, Rec};
+use trees::{Kind, Rec};
 
 // The whole records lent or 65,536, the smaller.
 pub fn space_for(slots: usize) -> usize
@@ -21,14 +21,14 @@ pub fn space_for(slots: usize) -> usize
 fn is_arg(r: Rec) -> bool
     ensures { result ≡ is_arg r }
 {
-    r.kind == Head::PATTERN_MACRO_ARG
+    r.kind == Kind::PatternMacroArg as u8
 }
 
 // Whether r is a MacroArg with none of n patterns at its index.
 fn lacks_pattern(r: Rec, n: usize) -> bool
     ensures { result ≡ lacks_pattern n r }
 {
-    if r.kind == Head::PATTERN_MACRO_ARG {
+    if r.kind == Kind::PatternMacroArg as u8 {
         return n as u64 <= r.word1;
     }
     false

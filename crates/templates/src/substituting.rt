@@ -8,7 +8,7 @@ ghost use Rattle.templates.specs.Scans.{Starts, start_of, pattern_records, fille
 use crate::Answer;
 use crate::scans::{append, append_slice, first_lacking, settle, space_for};
 use records::rec_at;
-use trees::Head;
+use trees::Kind;
 
 // Where the tree that starts at slot `at` ends.
 fn tree_end(list: &[u8], at: usize) -> usize
@@ -97,7 +97,7 @@ fn append_filled(
     ensures { Wrote room out.old o (filled_by patterns.now (rec_at template.now i)) out.new result }
 {
     let r = rec_at(template, i);
-    if r.kind == Head::PATTERN_MACRO_ARG {
+    if r.kind == Kind::PatternMacroArg as u8 {
         return append_pattern(patterns, starts, m, r.word1 as usize, out, o, room);
     }
     append(out, o, r, room)

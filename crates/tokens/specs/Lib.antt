@@ -2,3 +2,4 @@ pub mod Token
 pub mod Ident
 pub mod Lent
 pub mod Input
+pub mod Kind

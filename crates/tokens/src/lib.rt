@@ -10,7 +10,21 @@ ghost use Rattle.tokens.specs.Token.{token_count, token_at, kind_at, is_lparen, 
 use names::{first_byte, spelling};
 use words::{same, word};
 
-// A token by value, as the Rust's lookahead. Past the last token the kind is NONE and the position that of the end.
+// The kinds of tokens. The last two are never lent: what stands behind the tokens of a text where the lexer refuses the next one, and where
+// there is one too many. A lent record may have any number below 16 as its kind.
+#[derive(Clone, Copy, Debug, PartialEq, Eq)]
+pub enum TokenKind {
+    Nothing = 0,
+    LParen = 1,
+    RParen = 2,
+    Symbol = 3,
+    Int = 4,
+    At = 5,
+    Refused = 6,
+    TooMany = 7,
+}
+
+// A token by value, as the Rust's lookahead. Past the last token the kind is `Nothing` and the position that of the end.
 #[derive(Clone, Copy)]
 pub struct Token {
     pub kind: u8,
@@ -20,73 +34,56 @@ pub struct Token {
 }
 
 impl Token {
-    // The bytes of a token record, and the kinds (document 01, 'Token records').
+    // The bytes of a token record.
     pub const WIDTH: usize = 24;
-
-    pub const NONE: u8 = 0;
-
-    pub const LPAREN: u8 = 1;
-
-    pub const RPAREN: u8 = 2;
-
-    pub const SYMBOL: u8 = 3;
-
-    pub const INT: u8 = 4;
-
-    pub const AT: u8 = 5;
-
-    // Kinds that are never lent: what stands behind the tokens of a text where the lexer refuses the next one, and where there is one too many.
-    pub const REFUSED: u8 = 6;
-
-    pub const TOO_MANY: u8 = 7;
 
     pub fn is_lparen(self) -> bool
         ensures { result ≡ is_lparen self }
     {
-        self.kind == Token::LPAREN
+        self.kind == TokenKind::LParen as u8
     }
 
     pub fn is_rparen(self) -> bool
         ensures { result ≡ is_rparen self }
     {
-        self.kind == Token::RPAREN
+        self.kind == TokenKind::RParen as u8
     }
 
     pub fn is_symbol(self) -> bool
         ensures { result ≡ is_symbol self }
     {
-        self.kind == Token::SYMBOL
+        self.kind == TokenKind::Symbol as u8
     }
 
     pub fn is_int(self) -> bool
         ensures { result ≡ is_int self }
     {
-        self.kind == Token::INT
+        self.kind == TokenKind::Int as u8
     }
 
     pub fn is_at(self) -> bool
         ensures { result ≡ is_at self }
     {
-        self.kind == Token::AT
+        self.kind == TokenKind::At as u8
     }
 
     pub fn is_refused(self) -> bool
         ensures { result ≡ is_refused self }
     {
-        self.kind == Token::REFUSED
+        self.kind == TokenKind::Refused as u8
     }
 
     pub fn is_too_many(self) -> bool
         ensures { result ≡ is_too_many self }
     {
-        self.kind == Token::TOO_MANY
+        self.kind == TokenKind::TooMany as u8
     }
 
     // Whether the token is a symbol that starts with `$`.
     pub fn is_const(self, text: &[u8]) -> bool
         ensures { result ≡ is_const text.now self }
     {
-        if self.kind == Token::SYMBOL {
+        if self.kind == TokenKind::Symbol as u8 {
             first_byte(spelling(text, self.word1)) == b'$'
         } else {
             false
@@ -97,7 +94,7 @@ impl Token {
     pub fn is_word(self, text: &[u8], w: &[u8]) -> bool
         ensures { result ≡ is_word text.now w.now self }
     {
-        if self.kind == Token::SYMBOL {
+        if self.kind == TokenKind::Symbol as u8 {
             same(spelling(text, self.word1), w)
         } else {
             false
@@ -120,7 +117,7 @@ pub fn token_at(tokens: &[u8], end: u32, at: usize) -> Token
         }
     } else {
         Token {
-            kind: Token::NONE,
+            kind: TokenKind::Nothing as u8,
             pos: end,
             word1: 0,
             word2: 0,
@@ -135,7 +132,7 @@ pub fn kind_at(tokens: &[u8], at: usize) -> u8
     if at < tokens.len() / Token::WIDTH {
         (word(tokens, at * Token::WIDTH) / 1152921504606846976) as u8
     } else {
-        Token::NONE
+        TokenKind::Nothing as u8
     }
 }
 

@@ -53,9 +53,9 @@ parse_compound-second_kind-requires t c = search near-ready
 pub parse_compound-parse_bind-requires : goal.parse_compound-parse_bind-requires
 parse_compound-parse_bind-requires t c = (omega arith, (search rules, search rules))
 
-pub parse_compound-returns-then-second_kind-eq-AT : goal.parse_compound-returns-then-second_kind-eq-AT
+pub parse_compound-returns-then-second_kind : goal.parse_compound-returns-then-second_kind
 unfolding compound
-parse_compound-returns-then-second_kind-eq-AT t c = search (next_yes, second_at)
+parse_compound-returns-then-second_kind t c = search (next_yes, second_at)
 
 pub parse_compound-ident_node_of-requires-clause-t_value_2 : goal.parse_compound-ident_node_of-requires-clause-t_value_2
 parse_compound-ident_node_of-requires-clause-t_value_2 t c = search told

@@ -2,8 +2,8 @@ use borrow.Author.Rules.{rules}
 use Rattle.opening.proofs.MadeLaws.{call_none, call_some, call_name}
 use Rattle.opening.proofs.made.call_at.Goals as goal
 
-pub returns-then-r-ne-PATTERN_TERM : goal.returns-then-r-ne-PATTERN_TERM
-returns-then-r-ne-PATTERN_TERM c = (search call_none, search rules)
+pub returns-then-r : goal.returns-then-r
+returns-then-r c = (search call_none, search rules)
 
 pub rec_at-name-requires : goal.rec_at-name-requires
 rec_at-name-requires c = search call_name

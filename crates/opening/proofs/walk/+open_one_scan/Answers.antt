@@ -89,8 +89,8 @@ scan-overflow_add-j t c = omega (arith, scanning_most)
 pub scan-overflow_add-j-in-loop-j : goal.scan-overflow_add-j-in-loop-j
 scan-overflow_add-j-in-loop-j t c = omega (arith, scanning_most)
 
-pub scan-loop-j-preserved-then-r-eq-PATTERN_MACRO_ARG : goal.scan-loop-j-preserved-then-r-eq-PATTERN_MACRO_ARG
-scan-loop-j-preserved-then-r-eq-PATTERN_MACRO_ARG t c = search scanning_arg
+pub scan-loop-j-preserved-then-r : goal.scan-loop-j-preserved-then-r
+scan-loop-j-preserved-then-r t c = search scanning_arg
 
 pub scan-append-y-requires : goal.scan-append-y-requires
 scan-append-y-requires t c = search scanning_room

@@ -1,8 +1,8 @@
 use Rattle.templates.proofs.ScanLaws.{lacks_arg, lacks_other}
 use Rattle.templates.proofs.scans.lacks_pattern.Goals as goal
 
-pub returns-then-r-eq-PATTERN_MACRO_ARG : goal.returns-then-r-eq-PATTERN_MACRO_ARG
-returns-then-r-eq-PATTERN_MACRO_ARG c = search lacks_arg
+pub returns-then-r : goal.returns-then-r
+returns-then-r c = search lacks_arg
 
 pub returns : goal.returns
 returns c = search lacks_other

@@ -5,8 +5,8 @@ use Rattle.templates.proofs.substituting.append_filled.Goals as goal
 pub append_pattern-requires : goal.append_pattern-requires
 append_pattern-requires c = search (rules, arg_below)
 
-pub returns-then-r-eq-PATTERN_MACRO_ARG : goal.returns-then-r-eq-PATTERN_MACRO_ARG
-returns-then-r-eq-PATTERN_MACRO_ARG c = search filled_arg
+pub returns-then-r : goal.returns-then-r
+returns-then-r c = search filled_arg
 
 pub returns : goal.returns
 returns c = search filled_copy
