@@ -1,5 +1,5 @@
 -- The number of a refusal's ground, as isle.h names them.
-use Rattle.std.specs.Prelude.{ℕ}
+use Rattle.std.specs.Prelude.{ℕ, Result, Ok, Err}
 use Rattle.records.specs.declared.Ground.{Ground}
 use Rattle.records.specs.declared.Ground.TheVariants.{PartOfARecord, BadToken, MalformedList, MacroArg, MacroArgIndex, NoSpace, TooMuch, TooDeep, UnexpectedToken, UnexpectedEnd, UnknownDefinition, EmptyIdentifier, FirstCharacter, LaterCharacter, NotAConstant, UnknownPragma, TypeModifier, TypeDefinition, Attribute, VerificationAttribute, Extern, RuleName, Priority, Pattern, Expression, UncoveredWord, ExtractorName, ArgumentCount, CallOrder, TooManyExtractors, NotAToken, NotAscii}
 
@@ -36,3 +36,8 @@ number CallOrder = 32
 number TooManyExtractors = 33
 number NotAToken = 40
 number NotAscii = 41
+
+-- that of a test, 0 where it is passed
+abbrev pub code : Result (Unit {0}) Ground → ℕ
+code (Ok x) = 0
+code (Err g) = number g

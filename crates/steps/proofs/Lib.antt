@@ -1,5 +1,5 @@
+pub mod SizeLaws
+pub mod MetLaws
 pub mod StepLaws
 pub mod NameLaws
-pub mod MetLaws
-pub mod SizeLaws
 pub mod RowLaws

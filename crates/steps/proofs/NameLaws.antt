@@ -10,17 +10,27 @@ use lib.Dec.{eqb, ltb}
 use mir.Syntax.{w64}
 use mir.Val.{Fits}
 use borrow.Author.Tests.{eq-eqb, ne_eqb, eqb-true, eqb-false, lt-ltb, ltb-true}
-use Rattle.trees.specs.Choice.{pick}
+use Rattle.std.specs.Prelude.{Result, Ok, Err}
+use Rattle.std.specs.Result.{IfOk, IsErr, IsErrAnd}
+use Rattle.std.proofs.lemmas.Result.{err_from_is_err_and}
+use Rattle.trees.specs.Choice.{pick, choose}
 use Rattle.trees.specs.Names.{spelled, Nonempty, without_first}
-use Rattle.trees.proofs.Laws.{spelled_nonempty, rest_nonempty}
+use Rattle.trees.specs.Tree.{node, ∅, head, record_of, records_all}
+use Rattle.trees.proofs.Laws.{spelled_nonempty, rest_nonempty, count_none, count-one, size-one, size-node, size_none}
+use Rattle.records.specs.Slots.{put, writes}
+use Rattle.records.proofs.Laws.{writes-node, writes-none}
+use Rattle.records.specs.declared.Ground.{Ground}
+use Rattle.records.specs.Grounds.{number, code}
+use Rattle.records.proofs.GroundLaws.{number_above}
+use Rattle.tokens.specs.declared.Token.{Token}
+use Rattle.tokens.specs.Token.{is_symbol, is_const}
+use Rattle.tokens.specs.Input.{Input, peek}
 use Rattle.tokens.specs.Ident.{ident_refusal}
-use Rattle.steps.specs.declared.Cut.{Cut}
-use Rattle.steps.specs.declared.Cut.TheVariants.{Name, NoName}
-use Rattle.steps.specs.declared.Parsed.{Parsed}
-use Rattle.steps.specs.declared.Parsed.TheVariants.{Refused}
-use Rattle.steps.specs.Outcome.{refusal, refused_as, pragma_refusal, ident_at, const_refusal}
-use Rattle.steps.specs.Met.{Met, CutTo}
-use Rattle.steps.proofs.StepLaws.{ident-refused}
+use Rattle.tokens.proofs.TokenLaws.{const_kind}
+use Rattle.steps.specs.declared.State.{State}
+use Rattle.steps.specs.declared.Stop.{Stop}
+use Rattle.steps.specs.Outcome.{Reader, refuse, refusal, unexpected, refused_as, pragma_refusal, ident_at, const_refusal, name_by, parse_ident, parse_const}
+use Rattle.steps.specs.Met.{told, state, Met, Chained, SymbolAt, Named}
 
 -- ---- identifiers
 
@@ -29,26 +39,8 @@ unfolding ident_refusal
 identifier-long [] e = absurd (omega arith)
 identifier-long (c ∷ cs) e = omega arith
 
-pub identifier_nonempty : (text b : List ℕ) (w c : ℕ) → b ≡ spelled text w → c ≡ ident_refusal b → c ≡ 0 → Nonempty w
-identifier_nonempty text b w c e f z = spelled_nonempty text w (omega (arith, identifier-long b (sym f ∙ z), ap length e))
-
--- where another number stands for the refusals of an identifier
-pub refused_nonempty : (text b : List ℕ) (code w c : ℕ) → 0 < code → b ≡ spelled text w → c ≡ refused_as code b → c ≡ 0 → Nonempty w
-unfolding refused_as
-refused_nonempty text b code w c l e f z = go (eqb (ident_refusal b) 0) refl (sym f ∙ z)
-  where
-    go : (t : Bool) → eqb (ident_refusal b) 0 ≡ t → pick t 0 code ≡ 0 → Nonempty w
-    go true p h = identifier_nonempty text b w 0 e (sym (eqb-true _ 0 p)) refl
-    go false p h = absurd (omega (arith, h, l))
-
--- a pragma's name is always refused
-pub pragma_never : (b : List ℕ) (w c : ℕ) → c ≡ pragma_refusal b → c ≡ 0 → Nonempty w
-unfolding pragma_refusal
-pragma_never b w c f z = go (eqb (ident_refusal b) 0) refl (sym f ∙ z)
-  where
-    go : (t : Bool) → eqb (ident_refusal b) 0 ≡ t → pick t 17 (ident_refusal b) ≡ 0 → Nonempty w
-    go true p h = absurd (omega arith)
-    go false p h = absurd (eqb-false _ 0 p h)
+pub identifier_nonempty : (text b : List ℕ) (w : ℕ) → b ≡ spelled text w → 0 ≡ ident_refusal b → Nonempty w
+identifier_nonempty text b w e f = spelled_nonempty text w (omega (arith, identifier-long b (sym f), ap length e))
 
 -- ---- constants
 
@@ -73,21 +65,37 @@ unfolding const_refusal
 constant-is b d = rw (d.identifier, d.dollar, lt-ltb 1 (length b) d.longer)
 
 -- by the ways through the code
-module _ (s : List ℕ) (c : ℕ) (e : c ≡ ident_refusal s) where
-  pub const_bad : (c ≡ 0 → ⊥) → c ≡ const_refusal s
+module _ (s : List ℕ) where
+  pub const_bad : (g : Ground) → number g ≡ ident_refusal s → number g ≡ const_refusal s
   unfolding const_refusal
-  const_bad h = rw (← e, ne_eqb c 0 h)
+  const_bad g e = let z : number g ≡ 0 → ⊥ = λ h. omega (arith, number_above g, h) in rw (← e, ne_eqb (number g) 0 z)
 
-  pub const_plain : (x : ℕ) → c ≡ 0 → x ≡ get_or s 0 0 → (x ≡ 36 → ⊥) → 16 ≡ const_refusal s
+  pub const_plain : (x : ℕ) → 0 ≡ ident_refusal s → x ≡ get_or s 0 0 → (x ≡ 36 → ⊥) → 16 ≡ const_refusal s
   unfolding const_refusal
-  const_plain x h f g = rw (← e, eq-eqb c 0 h, ← f, ne_eqb x 36 g)
+  const_plain x e f g = rw (← e, ← f, ne_eqb x 36 g)
 
-  pub const_alone : (x : ℕ) → c ≡ 0 → x ≡ get_or s 0 0 → x ≡ 36 → length s ≡ 1 → 16 ≡ const_refusal s
+  pub const_alone : (x : ℕ) → 0 ≡ ident_refusal s → x ≡ get_or s 0 0 → x ≡ 36 → length s ≡ 1 → 16 ≡ const_refusal s
   unfolding const_refusal
-  const_alone x h f g l = rw (← e, eq-eqb c 0 h, ← f, eq-eqb x 36 g, l)
+  const_alone x e f g l = rw (← e, ← f, eq-eqb x 36 g, l)
 
-  pub const_dollar : (x : ℕ) → c ≡ 0 → x ≡ get_or s 0 0 → x ≡ 36 → (length s ≡ 1 → ⊥) → 0 ≡ const_refusal s
-  const_dollar x h f g l = sym (constant-is s (record { identifier = sym e ∙ h; dollar = sym f ∙ g; longer = omega (arith, identifier-long s (sym e ∙ h), l) }))
+  pub const_dollar : (x : ℕ) → 0 ≡ ident_refusal s → x ≡ get_or s 0 0 → x ≡ 36 → (length s ≡ 1 → ⊥) → 0 ≡ const_refusal s
+  const_dollar x e f g l = sym (constant-is s (record { identifier = sym e; dollar = sym f ∙ g; longer = omega (arith, identifier-long s (sym e), l) }))
+
+  pub refused_other : (why : Ground) → 0 ≡ ident_refusal s → 0 ≡ refused_as (number why) s
+  unfolding refused_as
+  refused_other why e = rw (← e) refl
+
+  pub refused_so : (why g : Ground) → number g ≡ ident_refusal s → number why ≡ refused_as (number why) s
+  unfolding refused_as
+  refused_so why g e = let z : number g ≡ 0 → ⊥ = λ h. omega (arith, number_above g, h) in rw (← e, ne_eqb (number g) 0 z) refl
+
+  pub pragma_unknown : 0 ≡ ident_refusal s → 17 ≡ pragma_refusal s
+  unfolding pragma_refusal
+  pragma_unknown e = rw (← e) refl
+
+  pub pragma_bad : (g : Ground) → number g ≡ ident_refusal s → number g ≡ pragma_refusal s
+  unfolding pragma_refusal
+  pragma_bad g e = let z : number g ≡ 0 → ⊥ = λ h. omega (arith, number_above g, h) in rw (← e, ne_eqb (number g) 0 z) refl
 
 -- ---- what is left without the `$`
 
@@ -107,26 +115,83 @@ module _ (text b : List ℕ) (c w : ℕ) (e : b ≡ spelled text w) (f : c ≡ c
       omega (arith, h, starts-inside text (w / 4294967296) (w % 4294967296) first)
 
   -- THE PROMISE: the name is not empty
-  pub cut-name : c ≡ 0 → CutTo w (const_refusal (spelled text w)) (Name (without_first w))
-  unfolding CutTo
-  cut-name z =
+  pub cut_named : c ≡ 0 → Named (const_refusal (spelled text w)) (without_first w) (Ok (without_first w))
+  unfolding Named
+  cut_named z =
       let d = is-constant b (sym f ∙ z) in
       (ap const_refusal (sym e) ∙ sym f ∙ z, refl, rest_nonempty text w (omega (arith, d.longer, ap length e)))
 
-  pub cut-none : (c ≡ 0 → ⊥) → CutTo w (const_refusal (spelled text w)) (NoName c)
-  unfolding CutTo
-  cut-none n = (f ∙ ap const_refusal e, λ z. n (f ∙ ap const_refusal e ∙ z))
+-- where judging a name returns by a `?`
+pub named_exit : (c w x : ℕ) (g : Ground) (r : Result ℕ Ground) → IsErr r × IsErrAnd r (λ e. e ≡ g) → number g ≡ x → x ≡ c → Named c w r
+unfolding Named
+named_exit c w x g r h e a =
+    let p = err_from_is_err_and r h.1 in
+    rw (p.1, p.2) (e ∙ a, λ z. omega (arith, number_above g, e, a, z))
 
--- by what the cut has told
-module _ (range c : ℕ) (x : Cut) (h : CutTo range c x) where
-  pub cut_nonempty : (w : ℕ) → x ≡ Name w → Nonempty w
-  unfolding CutTo
-  cut_nonempty w e = let q = rw e at h in q.2
+pub code_exit : (x : ℕ) (g : Ground) (r : Result (Unit {0}) Ground) → IsErr r × IsErrAnd r (λ e. e ≡ g) → number g ≡ x → code r ≡ x
+code_exit x g r h e = let p = err_from_is_err_and r h.1 in rw (p.1, p.2) e
 
-  pub const_put : (w pos i n k : ℕ) (l l' : List ℕ) (r : Parsed) → x ≡ Name w → Met (ident_at pos w 0 i) n k l l' r → Met (ident_at pos (without_first range) c i) n k l l' r
-  unfolding CutTo
-  const_put w pos i n k l l' r e m = let q = rw e at h in rw (q.0, ← q.1) m
+pub named_ok : (c w : ℕ) → 0 ≡ c → Nonempty w → Named c w (Ok w)
+unfolding Named
+named_ok c w e n = (sym e, refl, n)
 
-  pub const_out : (d pos i n k j : ℕ) (l : List ℕ) → x ≡ NoName d → j ≡ i + 1 → Met (ident_at pos (without_first range) c i) n k l l (Refused (refusal d pos j))
-  unfolding CutTo
-  const_out d pos i n k j l e g = let q = rw e at h in rw q.0 (ident-refused pos (without_first range) c i n k j l g q.1)
+pub named_err : (c w : ℕ) (g : Ground) → number g ≡ c → Named c w (Err g)
+unfolding Named
+named_err c w g e = (e, λ z. omega (arith, number_above g, e, z))
+
+pub named_nonempty : (c w : ℕ) (r : Result ℕ Ground) → Named c w r → IfOk r Nonempty
+unfolding Named
+named_nonempty c w (Ok n) h = h.2
+named_nonempty c w (Err g) h = tt
+
+-- ---- an Ident
+
+module _ (pos n k i : ℕ) (l : List ℕ) where
+  pub ident_put : (m j x : ℕ) (l' : List ℕ) → j ≡ i + 1 → x ≡ n + 1 → l' ≡ put l n (record_of (head 24 0 pos m 0) 0) → (c w : ℕ) → Named c w (Ok m) → Met (ident_at pos w c i) n k l l' (Ok (state j x (k + 1)))
+  unfolding Met ident_at Named
+  ident_put m j x l' f g e c w h =
+      let name = head 24 0 pos m 0 in
+      rw (h.0, ← h.1)
+      (record {
+        ends = f;
+        counted = omega (arith, g, size-one (node name ∅), size-node name ∅, size_none);
+        rows = omega (arith, count-one (node name ∅));
+        wrote = e ∙ ap (λ (v : List ℕ). put v n (record_of name 0)) (sym (writes-none l (n + 1))) ∙ ap (λ (v : ℕ). put (writes l (n + 1) (records_all ∅)) n (record_of name v)) (sym count_none) ∙ writes-node name ∅ l n;
+      })
+
+  pub ident_refused : (g : Ground) (j : ℕ) → j ≡ i + 1 → (c w : ℕ) → Named c w (Err g) → Met (ident_at pos w c i) n k l l (Err (record { why = g; place = pos; taken = j }))
+  unfolding Met ident_at Named
+  ident_refused g j f c w h = rw (ne_eqb c 0 h.1, f) (ap (λ (x : ℕ). refusal x pos (i + 1)) h.0)
+
+-- ---- a symbol that is a name
+
+module _ (s : Input) (judge : List ℕ → ℕ) (range : ℕ → ℕ) (p : State) where
+  pub by_name : (t : Token) (l l' : List ℕ) (r : Result State Stop) → t ≡ peek s p.next → is_symbol t ≡ true → Met (ident_at t.pos (range t.word1) (judge (spelled s.text t.word1)) p.next) p.count p.items l l' r → Chained (name_by s judge range) p l l' r
+  unfolding name_by
+  by_name t l l' r a v m = record { met = rw (← a, v) m }
+
+  pub by_other : (l : List ℕ) (d : Stop) (r : Result State Stop) → IsErr r × IsErrAnd r (λ e. e ≡ d) → SymbolAt s p (Err d) → Chained (name_by s judge range) p l l r
+  unfolding name_by Met SymbolAt
+  by_other l d r h m = let e = err_from_is_err_and r h.1 in rw (e.1, e.2) (record { met = rw m.1 m.0 })
+
+module _ (s : Input) (p : State) (t : Token) (m : SymbolAt s p (Ok t)) where
+  pub symbol_next : t ≡ peek s p.next
+  unfolding SymbolAt
+  symbol_next = m.0
+
+  pub symbol_is : is_symbol t ≡ true
+  unfolding SymbolAt
+  symbol_is = m.1
+
+pub const_told : (text : List ℕ) (t : Token) → is_const text t ≡ true → is_symbol t ≡ true
+unfolding is_symbol
+const_told text t e = eq-eqb t.kind 3 (const_kind text t e)
+
+module _ (s : Input) (p : State) (t : Token) (b : Bool) (a : t ≡ peek s p.next) (e : b ≡ is_symbol t) where
+  pub symbol_ok : b ≡ true → SymbolAt s p (Ok t)
+  unfolding SymbolAt
+  symbol_ok h = (a, sym e ∙ h)
+
+  pub symbol_err : (d : Stop) → b ≡ false → told d ≡ unexpected t p.next → SymbolAt s p (Err d)
+  unfolding SymbolAt
+  symbol_err d h u = rw (← a) (u, sym e ∙ h)

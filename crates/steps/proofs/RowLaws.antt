@@ -4,18 +4,19 @@ use native.Mathlib.Omega.{arith}
 use mathlib.Core.Path.{◌≡◌, refl, sym, ap, subst, ◌∙◌}
 use mathlib.Core.List.{List}
 use mathlib.Core.Bool.{Bool, true, false}
-use borrow.Author.Tests.{not-true, not-false}
+use Rattle.std.specs.Prelude.{Result, Ok, Err}
 use Rattle.trees.specs.Choice.{choose}
 use Rattle.trees.specs.Tree.{Trees, ∅, ◌⧺◌, count}
 use Rattle.trees.proofs.Laws.{size_⧺}
 use Rattle.tokens.specs.Token.{is_rparen}
 use Rattle.tokens.specs.Input.{Input, peek, size}
-use Rattle.steps.specs.declared.Parsed.{Parsed}
-use Rattle.steps.specs.declared.Parsed.TheVariants.{Accepted, Refused}
+use Rattle.steps.specs.declared.State.{State}
+use Rattle.steps.specs.declared.Stop.{Stop}
 use Rattle.steps.specs.Outcome.{Outcome, accept, refuse, Reader, refusal, before, nothing, then_at, items_from, many_at, many, row, parse_ident}
-use Rattle.steps.specs.Met.{Met, Chained, ChainedAt, goes_on, At, Ready}
-use Rattle.steps.proofs.MetLaws.{begun, chain_at, plain_at}
-use Rattle.steps.proofs.SizeLaws.{Fit, Sized, BoundedAt, Steady, Item, ident_item, plain-bounded, nothing-bounded, sized-refuse, sized-accept, sized-choose}
+use Rattle.steps.specs.Sizes.{Fit, Sized, BoundedAt}
+use Rattle.steps.specs.Met.{Met, Chained}
+use Rattle.steps.proofs.MetLaws.{begun, chain_at, stop_at}
+use Rattle.steps.proofs.SizeLaws.{Steady, Item, ident_item, plain-bounded, nothing-bounded, sized-refuse, sized-accept, sized-choose}
 
 -- ---- the bound
 
@@ -90,48 +91,37 @@ module _ (stop : ℕ → Bool) (f : ℕ → ℕ → Outcome) (s : Input) (c d : 
 
 -- ---- a loop over items
 
--- whatever reads the rest of the row from q reads the whole of it from p
-pub record Going (s : Input) (stop : ℕ → Bool) (f : ℕ → ℕ → Outcome) (p : Parsed) (l : List ℕ) (q : Parsed) (l₁ : List ℕ) : Type 0 where
-  pub onward : (l₂ : List ℕ) (r : Parsed) → ChainedAt (many_at (size s) stop f) q l₁ l₂ r → ChainedAt (many_at (size s) stop f) p l l₂ r
+-- whatever reads the rest of the row from q, by so many turns, reads the whole of it from p; a turn for each token is left
+pub record Going (s : Input) (stop : ℕ → Bool) (f : ℕ → ℕ → Outcome) (p : State) (l : List ℕ) (q : State) (l₁ : List ℕ) : Type 0 where
+  pub turns : ℕ
+  pub enough : size s + p.next ≤ turns + q.next
+  pub onward : (l₂ : List ℕ) (r : Result State Stop) → Chained (items_from stop f (suc turns) q.items) q l₁ l₂ r → Chained (many_at (size s) stop f p.items) p l l₂ r
 
-pub going_start : (s : Input) (stop : ℕ → Bool) (f : ℕ → ℕ → Outcome) (p : Parsed) (l : List ℕ) → Going s stop f p l p l
-going_start s stop f p l = record { onward = λ l₂ r h. h }
+pub going_start : (s : Input) (stop : ℕ → Bool) (f : ℕ → ℕ → Outcome) (p : State) (l : List ℕ) → Going s stop f p l p l
+unfolding many_at
+going_start s stop f p l = record { turns = size s; enough = omega arith; onward = λ l₂ r h. record { met = h.met } }
 
-row_turn : (s : Input) (stop : ℕ → Bool) (f : ℕ → ℕ → Outcome) (c d e : ℕ) (q q₂ r : Parsed) (l₁ l₂ l₃ : List ℕ) → BoundedAt 1 c d s f → Ready e s q → goes_on stop q ≡ true → ChainedAt f q l₁ l₂ q₂ → ChainedAt (many_at (size s) stop f) q₂ l₂ l₃ r → ChainedAt (many_at (size s) stop f) q l₁ l₃ r
-unfolding ChainedAt goes_on Ready
-row_turn s stop f c d e (Accepted i n k) q₂ r l₁ l₂ l₃ g a t h m =
-    rw (row_law stop f s c d g k i a.here, not-true (stop i) t)
-    (chain_at (f k i) (many_at (size s) stop f) n k l₁ l₂ l₃ q₂ r m h)
-row_turn s stop f c d e (Refused x) q₂ r l₁ l₂ l₃ g a t h m = let z : ◌≡◌ {A = ℕ} 0 1 = cc in absurd (omega arith)
+one_turn : (stop : ℕ → Bool) (f : ℕ → ℕ → Outcome) (n : ℕ) (q : State) (l₁ l₂ : List ℕ) (r : Result State Stop) → stop q.next ≡ false → Met (then_at q.items (f q.items q.next) (items_from stop f n)) q.count q.items l₁ l₂ r → Chained (items_from stop f (suc n) q.items) q l₁ l₂ r
+one_turn stop f n q l₁ l₂ r t m = record { met = rw (turn stop f n q.items q.next, t) m }
 
-pub going_on : (s : Input) (stop : ℕ → Bool) (f : ℕ → ℕ → Outcome) (p q q₂ : Parsed) (l l₁ l₂ : List ℕ) (c d e : ℕ) (x : Bool) → ChainedAt f q l₁ l₂ q₂ → Going s stop f p l q l₁ → x ≡ goes_on stop q → x ≡ true → BoundedAt 1 c d s f → Ready e s q → Going s stop f p l q₂ l₂
-going_on s stop f p q q₂ l l₁ l₂ c d e x h w t v g a =
-    record { onward = λ l₃ r m. w.onward l₃ r (row_turn s stop f c d e q q₂ r l₁ l₂ l₃ g a (sym t ∙ v) h m) }
+module _ {s : Input} {stop : ℕ → Bool} {f : ℕ → ℕ → Outcome} {p q : State} {l l₁ : List ℕ} (w : Going s stop f p l q l₁) (t : stop q.next ≡ false) where
+  pub going_on : {q₂ : State} {l₂ : List ℕ} → p.next ≤ q.next → q.next < q₂.next → q₂.next ≤ size s → Chained (f q.items) q l₁ l₂ (Ok q₂) → Going s stop f p l q₂ l₂
+  going_on {q₂ = q₂} {l₂ = l₂} z a b h = go w.turns refl
+    where
+      go : (n : ℕ) → w.turns ≡ n → Going s stop f p l q₂ l₂
+      go zero e = absurd (omega (arith, w.enough, e))
+      go (suc n) e =
+          record {
+            turns = n;
+            enough = omega (arith, w.enough, e);
+            onward = λ l₃ r m. w.onward l₃ r (rw e (one_turn stop f (suc n) q l₁ l₃ r t (chain_at (f q.items q.next) (items_from stop f (suc n)) q.count q.items l₁ l₂ l₃ q₂ r h.met m.met)));
+          }
 
-row-end : (s : Input) (stop : ℕ → Bool) (f : ℕ → ℕ → Outcome) (q : Parsed) (l : List ℕ) → goes_on stop q ≡ false → ChainedAt (many_at (size s) stop f) q l l q
-unfolding ChainedAt goes_on many_at items_from
-row-end s stop f (Accepted i n k) l t = rw (not-false (stop i) t) (begun i n k l)
-row-end s stop f (Refused x) l t = refl
+  pub going_stop : {e : Stop} {l₂ : List ℕ} → Chained (f q.items) q l₁ l₂ (Err e) → Chained (many_at (size s) stop f p.items) p l l₂ (Err e)
+  going_stop {e = e} {l₂ = l₂} h = w.onward l₂ (Err e) (one_turn stop f w.turns q l₁ l₂ (Err e) t (stop_at (f q.items q.next) (items_from stop f w.turns) q.count q.items l₁ l₂ e h.met))
 
-pub going_end : (s : Input) (stop : ℕ → Bool) (f : ℕ → ℕ → Outcome) (p q : Parsed) (l l₁ : List ℕ) (x : Bool) → Going s stop f p l q l₁ → x ≡ goes_on stop q → x ≡ false → ChainedAt (many_at (size s) stop f) p l l₁ q
-going_end s stop f p q l l₁ x w t v = w.onward l₁ q (row-end s stop f q l₁ (sym t ∙ v))
-
--- the number that falls: the tokens left, none after a refusal
-pub left : Input → Parsed → ℕ
-left s (Accepted i n k) = suc (size s) - i
-left s (Refused e) = 0
-
-left_met : (s : Input) (c e i n k : ℕ) (o : Outcome) (l l' : List ℕ) (r : Parsed) → Sized 1 c 0 s i o → At e s i n k → Met o n k l l' r → left s r < suc (size s) - i
-unfolding left Met
-left_met s c e i n k (accept ts j) l l' (Accepted x m w) z a h = let f = z.fit ts j refl in omega (arith, h.ends, f.on, f.inside a.here, a.here)
-left_met s c e i n k (accept ts j) l l' (Refused d) z a h = absurd h
-left_met s c e i n k (refuse d) l l' (Accepted x m w) z a h = absurd h
-left_met s c e i n k (refuse d) l l' (Refused x) z a h = omega (arith, a.here)
-
-pub left_falls : (s : Input) (stop : ℕ → Bool) (f : ℕ → ℕ → Outcome) (q r : Parsed) (l l' : List ℕ) (c e : ℕ) (x : Bool) → ChainedAt f q l l' r → x ≡ goes_on stop q → x ≡ true → BoundedAt 1 c 0 s f → Ready e s q → left s r < left s q
-unfolding left ChainedAt Ready goes_on
-left_falls s stop f (Accepted i n k) r l l' c e x h t v g a = left_met s c e i n k (f k i) l l' r (g.sized k i) a h
-left_falls s stop f (Refused d) r l l' c e x h t v g a = let z : ◌≡◌ {A = ℕ} 0 1 = cc in absurd (omega arith)
+pub going_end : {s : Input} {stop : ℕ → Bool} {f : ℕ → ℕ → Outcome} {p q : State} {l l₁ : List ℕ} → Going s stop f p l q l₁ → stop q.next ≡ true → Chained (many_at (size s) stop f p.items) p l l₁ (Ok q)
+going_end {s = s} {stop = stop} {f = f} {p = p} {q = q} {l = l} {l₁ = l₁} w t = w.onward l₁ (Ok q) (record { met = rw (turn stop f w.turns q.items q.next, t) (begun q.next q.count q.items l₁) })
 
 -- ---- a row whose items do not depend on how many stand before
 
@@ -140,24 +130,13 @@ unfolding items_from
 same_row stop f zero k m i = refl
 same_row stop f (suc n) k m i = ap (λ (o : Outcome). choose (stop i) (λ _. accept ∅ i) (λ _. o)) (same_rest (f i) (items_from stop (λ _. f) n) k m (λ a b j. same_row stop f n a b j))
 
-pub plain_row : (s : Input) (stop : ℕ → Bool) (f : ℕ → Outcome) (p r : Parsed) (l l' : List ℕ) → ChainedAt (many_at (size s) stop (λ _. f)) p l l' r → Chained (many (size s) stop f) p l l' r
-unfolding ChainedAt Chained many many_at
-plain_row s stop f (Accepted i n k) r l l' h = rw (same_row stop f (suc (size s)) 0 k i) h
-plain_row s stop f (Refused e) r l l' h = h
+pub plain_row : (s : Input) (stop : ℕ → Bool) (f : Reader) {p : State} {r : Result State Stop} {l l' : List ℕ} → Chained (many_at (size s) stop (λ _. f) p.items) p l l' r → Chained (many (size s) stop f) p l l' r
+unfolding many many_at
+plain_row s stop f {p = p} h = record { met = rw (same_row stop f (suc (size s)) 0 p.items p.next) h.met }
 
 pub row_steady : (s : Input) (stop : ℕ → Bool) (f : Reader) → Item s f → Steady s (many (size s) stop f)
 unfolding many
 row_steady s stop f g = record { sized = λ i. (row-bounded stop (λ _. f) s 0 0 (plain-bounded 1 0 0 s f g) refl).sized 0 i }
-
--- a row of plain items, in the words of the code
-pub row-going : (s : Input) (stop : ℕ → Bool) (f : Reader) (p q q₂ : Parsed) (l l₁ l₂ : List ℕ) (e : ℕ) (x : Bool) → Chained f q l₁ l₂ q₂ → Going s stop (λ _. f) p l q l₁ → x ≡ goes_on stop q → x ≡ true → Item s f → Ready e s q → Going s stop (λ _. f) p l q₂ l₂
-row-going s stop f p q q₂ l l₁ l₂ e x h w t v g a = going_on s stop (λ _. f) p q q₂ l l₁ l₂ 0 0 e x (plain_at f q l₁ l₂ q₂ h) w t v (plain-bounded 1 0 0 s f g) a
-
-pub row_falls : (s : Input) (stop : ℕ → Bool) (f : Reader) (q r : Parsed) (l l' : List ℕ) (e : ℕ) (x : Bool) → Chained f q l l' r → x ≡ goes_on stop q → x ≡ true → Item s f → Ready e s q → left s r < left s q
-row_falls s stop f q r l l' e x h t v g a = left_falls s stop (λ _. f) q r l l' 0 e x (plain_at f q l l' r h) t v (plain-bounded 1 0 0 s f g) a
-
-pub row_met : (s : Input) (stop : ℕ → Bool) (f : Reader) (p q : Parsed) (l l₁ : List ℕ) (x : Bool) → Going s stop (λ _. f) p l q l₁ → x ≡ goes_on stop q → x ≡ false → Chained (many (size s) stop f) p l l₁ q
-row_met s stop f p q l l₁ x w t v = plain_row s stop f p q l l₁ (going_end s stop (λ _. f) p q l l₁ x w t v)
 
 pub idents_steady : (s : Input) → Steady s (row s (parse_ident s))
 idents_steady s = row_steady s (λ i. is_rparen (peek s i)) (parse_ident s) (ident_item s)

@@ -14,34 +14,12 @@ use Rattle.trees.specs.Ast.{ident_node}
 use Rattle.trees.specs.Names.{spelled, without_first}
 use Rattle.trees.proofs.Laws.{size_none, size-one, size-node, size_⧺, count-size}
 use Rattle.tokens.specs.declared.Token.{Token}
-use Rattle.tokens.specs.Token.{token_at, is_lparen, is_rparen, is_symbol, is_int, is_at, is_const, is_word}
+use Rattle.tokens.specs.Token.{token_at, is_kind, is_lparen, is_rparen, is_symbol, is_int, is_at, is_const, is_word}
 use Rattle.tokens.specs.Ident.{ident_refusal}
 use Rattle.tokens.specs.Input.{Input, input, peek, size}
 use Rattle.tokens.proofs.TokenLaws.{kind-inside, word-kind}
-use Rattle.steps.specs.declared.Refusal.{Refusal}
-use Rattle.steps.specs.declared.Parsed.{Parsed}
-use Rattle.steps.specs.declared.Parsed.TheVariants.{Accepted, Refused}
-use Rattle.steps.specs.Outcome.{Outcome, accept, refuse, Reader, refusal, before, and_then, ◌⊳◌, node_of, parent, bare, leaf, nothing, refuse_from, refuse_at, flagged, ate, eat, refuse_after, refused_as, pragma_refusal, if_next, if_second, unexpected, expect_at, expect-lparen, expect-rparen, expect-at, expect-word, ident_at, name_by, parse_ident, const_refusal, parse_const}
-use Rattle.steps.proofs.StepLaws.{ready_at, ready-below, name-inside, const_inside}
-use Rattle.steps.specs.Met.{Met, Chained, ChainedAt, moved_to, moved, inside, token_for, At, Ready, Below, Near, Small}
-use Rattle.steps.proofs.MetLaws.{token}
-
--- the row ts, read from token i to j: at least u tokens, and 3 records for each of them with c to spare and d too many at most
-pub record Fit (u c d : ℕ) (s : Input) (i : ℕ) (ts : Trees) (j : ℕ) : Type 0 where
-  pub on : i + u ≤ j
-  pub inside : i ≤ size s → j ≤ size s
-  pub room : length (records_all ts) + 3 * i + c ≤ 3 * j + d
-
--- the same of an outcome, where it is an acceptance
-pub record Sized (u c d : ℕ) (s : Input) (i : ℕ) (o : Outcome) : Type 0 where
-  pub fit : (ts : Trees) (j : ℕ) → o ≡ accept ts j → Fit u c d s i ts j
-
--- and of a function at every token
-pub record BoundedAt (u c d : ℕ) (s : Input) (f : ℕ → ℕ → Outcome) : Type 0 where
-  pub sized : (k i : ℕ) → Sized u c d s i (f k i)
-
-pub record Bounded (u c d : ℕ) (s : Input) (f : ℕ → Outcome) : Type 0 where
-  pub sized : (i : ℕ) → Sized u c d s i (f i)
+use Rattle.steps.specs.Sizes.{Fit, Sized, BoundedAt, Bounded}
+use Rattle.steps.specs.Outcome.{Outcome, Refusal, accept, refuse, Reader, refusal, before, and_then, ◌⊳◌, node_of, parent, bare, leaf, nothing, refuse_from, refuse_at, flagged, ate, eat, refuse_after, refused_as, pragma_refusal, if_next, if_second, unexpected, expect_at, expect-lparen, expect-rparen, expect-at, expect-word, ident_at, name_by, parse_ident, const_refusal, parse_const}
 
 pub plain-bounded : (u c d : ℕ) (s : Input) (f : ℕ → Outcome) → Bounded u c d s f → BoundedAt u c d s (λ _. f)
 plain-bounded u c d s f h = record { sized = λ k i. h.sized i }
@@ -155,6 +133,10 @@ pub record Kinded (test : Token → Bool) : Type 0 where
   pub positive : 0 < kind
   pub is : (t : Token) → test t ≡ true → t.kind ≡ kind
 
+pub kind_kinded : (k : ℕ) → 0 < k → Kinded (is_kind k)
+unfolding is_kind
+kind_kinded k h = record { kind = k; positive = h; is = λ t e. eqb-true t.kind k e }
+
 pub lparen_kinded : Kinded is_lparen
 unfolding is_lparen
 lparen_kinded = record { kind = 1; positive = omega arith; is = λ t e. eqb-true t.kind 1 e }
@@ -265,167 +247,9 @@ unfolding refuse_after
 after-bounded u c d s kind code =
     record { sized = λ i. sized-choose u c d s i (eqb (peek s i).kind kind) (λ _. refuse (refusal code (peek s i).pos (i + 1))) (λ _. refuse (unexpected (peek s i) i)) (λ e. sized-refuse u c d s i (refusal code (peek s i).pos (i + 1))) (λ e. sized-refuse u c d s i (unexpected (peek s i) i)) }
 
--- ---- states
+-- what stands in a row, each item a token at least
+pub row_item : (c : ℕ) (s : Input) (f : Reader) → Bounded 1 c 0 s f → BoundedAt 1 0 0 s (λ _. f)
+row_item c s f b = plain-bounded 1 0 0 s f (less_bounded 1 c 0 1 0 0 s f (omega arith) (omega arith) b)
 
-ready-within : (c c' : ℕ) → c + 1 ≤ c' → c' ≤ 16 → (s : Input) (p : Parsed) → Ready c s p → Ready c' s (inside p)
-unfolding Ready inside
-ready-within c c' x y s (Accepted i n k) a = record { few = a.few; short = a.short; here = a.here; room = omega (arith, a.room); kids = omega arith; slack = y }
-ready-within c c' x y s (Refused e) a = tt
-
--- the first state of a node's children
-pub ready-inside : (c c' : ℕ) → c + 1 ≤ c' → c' ≤ 16 → (s : Input) (p q : Parsed) → q ≡ inside p → Ready c s p → Ready c' s q
-ready-inside c c' x y s p q e h = rw e (ready-within c c' x y s p h)
-
-module _ (c c' b : ℕ) (x : c ≤ c' + b) (y : c' ≤ 16) where
-  ready_met : (u : ℕ) (s : Input) (i n k : ℕ) (o : Outcome) (l l' : List ℕ) (r : Parsed) → Sized u b 0 s i o → At c s i n k → Met o n k l l' r → Ready c' s r
-  unfolding Met Ready
-  ready_met u s i n k (accept ts j) l l' (Accepted v m w) z a h =
-      let f = z.fit ts j refl in
-      record {
-        few = a.few;
-        short = a.short;
-        here = omega (arith, h.ends, f.inside a.here);
-        room = omega (arith, h.ends, h.counted, f.room, a.room);
-        kids = omega (arith, h.ends, h.rows, f.room, a.kids, count-size ts);
-        slack = y;
-      }
-  ready_met u s i n k (accept ts j) l l' (Refused d) z a h = absurd h
-  ready_met u s i n k (refuse e) l l' (Accepted v m w) z a h = absurd h
-  ready_met u s i n k (refuse e) l l' (Refused d) z a h = tt
-
-  -- the state after a part, with the slack that the part leaves
-  pub ready_less : (f : Reader) (q : Parsed) (l l' : List ℕ) (r : Parsed) (s : Input) → Chained f q l l' r → Bounded 1 b 0 s f → Ready c s q → Ready c' s r
-  unfolding Chained Ready
-  ready_less f (Accepted i n k) l l' r s h g a = ready_met 1 s i n k (f i) l l' r (g.sized i) a h
-  ready_less f (Refused e) l l' r s h g a = rw h tt
-
--- the state after a part
-pub ready-after : (f : Reader) (q : Parsed) (l l' : List ℕ) (r : Parsed) (c : ℕ) (s : Input) → Chained f q l l' r → Steady s f → Ready c s q → Ready c s r
-unfolding Chained Ready
-ready-after f (Accepted i n k) l l' r c s h g a = ready_met c c 0 (omega arith) a.slack 0 s i n k (f i) l l' r (g.sized i) a h
-ready-after f (Refused e) l l' r c s h g a = rw h tt
-
-pub ready_after_at : (f : ℕ → Reader) (q : Parsed) (l l' : List ℕ) (r : Parsed) (c : ℕ) (s : Input) → ChainedAt f q l l' r → BoundedAt 0 0 0 s f → Ready c s q → Ready c s r
-unfolding ChainedAt Ready
-ready_after_at f (Accepted i n k) l l' r c s h g a = ready_met c c 0 (omega arith) a.slack 0 s i n k (f k i) l l' r (g.sized k i) a h
-ready_after_at f (Refused e) l l' r c s h g a = rw h tt
-
--- the state after a token, with the slack that it leaves or as before
-pub ready_token_less : (c c' : ℕ) → c ≤ c' + 3 → c' ≤ 16 → (tokens text : List ℕ) (end : ℕ) (test : Token → Bool) (q r : Parsed) → r ≡ moved (expect_at tokens end test) q → Kinded test → Ready c (input tokens text end) q → Ready c' (input tokens text end) r
-ready_token_less c c' x y tokens text end test q r e k a =
-    let s = input tokens text end in
-    ready_less c c' 3 x y (expect_at tokens end test) q [] [] r s (token tokens end test q r [] e) (expect-bounded s test k) a
-
-pub ready-token : (tokens text : List ℕ) (end : ℕ) (test : Token → Bool) (q r : Parsed) (c : ℕ) → r ≡ moved (expect_at tokens end test) q → Kinded test → Ready c (input tokens text end) q → Ready c (input tokens text end) r
-ready-token tokens text end test q r c e k a =
-    let s = input tokens text end in
-    ready-after (expect_at tokens end test) q [] [] r c s (token tokens end test q r [] e) (steady 1 3 s (expect_at tokens end test) (expect-bounded s test k)) a
-
-pub small-ready : (c : ℕ) (s : Input) (q : Parsed) → Ready c s q → Small q
-unfolding Ready Small
-small-ready c s (Accepted i n k) a = omega (arith, a.few, a.here, a.kids)
-small-ready c s (Refused e) a = tt
-
-pub ready_again : (c : ℕ) (s : Input) (p q : Parsed) → q ≡ p → Ready c s p → Ready c s q
-ready_again c s p q e h = subst (λ (x : Parsed). Ready c s x) (sym e) h
-
-pub near-ready : (c : ℕ) (s : Input) (q : Parsed) → Ready c s q → Near q
-unfolding Ready Near
-near-ready c s (Accepted i n k) a = record { at = omega (arith, a.few, a.here); slot = omega (arith, a.few, a.here, a.room, a.slack); row = omega (arith, a.few, a.here, a.kids) }
-near-ready c s (Refused e) a = tt
-
--- where a node's children begin
-pub near-inside : (s : Input) (p q : Parsed) → Ready 3 s p → q ≡ inside p → Near q
-near-inside s p q h e = near-ready 4 s q (ready-inside 3 4 (omega arith) (omega arith) s p q e h)
-
--- fewer records to spare are more
-pub ready-more : (c c' : ℕ) → c ≤ c' → c' ≤ 16 → (s : Input) (q : Parsed) → Ready c s q → Ready c' s q
-unfolding Ready
-ready-more c c' x y s (Accepted i n k) a = record { few = a.few; short = a.short; here = a.here; room = omega (arith, a.room); kids = a.kids; slack = y }
-ready-more c c' x y s (Refused e) a = tt
-
--- rows that a record's child count holds, in the words of the code
--- (a state of the function's own tells which input is read)
-pub small-after : (c : ℕ) (f : Reader) (q r : Parsed) (l l' : List ℕ) (d : ℕ) (s : Input) (p : Parsed) → Chained f q l l' r → Ready d s p → Steady s f → Ready c s q → Small r
-small-after c f q r l l' d s p h z g a = small-ready c s r (ready-after f q l l' r c s h g a)
-
-small-token : (tokens : List ℕ) (end : ℕ) (test : Token → Bool) (i n k : ℕ) → Small (Accepted i n k) → (b : Bool) → test (token_at tokens end i) ≡ b → Small (moved_to n k (expect_at tokens end test i))
-unfolding Small moved_to expect_at
-small-token tokens end test i n k h true e = rw e h
-small-token tokens end test i n k h false e = rw e tt
-
-pub small-moved : (tokens : List ℕ) (end : ℕ) (test : Token → Bool) (q r : Parsed) → r ≡ moved (expect_at tokens end test) q → Small q → Small r
-unfolding moved
-small-moved tokens end test (Accepted i n k) r e h = rw e (small-token tokens end test i n k h (test (token_at tokens end i)) refl)
-small-moved tokens end test (Refused d) r e h = rw e h
-
--- a part that may make one record more than its tokens allow: as a first child, and for the child count
-one_more : (c c' : ℕ) → c + 2 ≤ c' → c' ≤ 16 → (s : Input) (i n k : ℕ) (o : Outcome) (l l' : List ℕ) (r : Parsed) → Sized 0 0 1 s i o → At c s i n k → Met o (n + 1) 0 l l' r → Ready c' s r
-unfolding Met Ready
-one_more c c' x y s i n k (accept ts j) l l' (Accepted v m w) z a h =
-    let f = z.fit ts j refl in
-    record {
-      few = a.few;
-      short = a.short;
-      here = omega (arith, h.ends, f.inside a.here);
-      room = omega (arith, h.ends, h.counted, f.room, a.room);
-      kids = omega (arith, h.ends, h.rows, f.room, count-size ts);
-      slack = y;
-    }
-one_more c c' x y s i n k (accept ts j) l l' (Refused d) z a h = absurd h
-one_more c c' x y s i n k (refuse e) l l' (Accepted v m w) z a h = absurd h
-one_more c c' x y s i n k (refuse e) l l' (Refused d) z a h = tt
-
-began : (f : Reader) (i n k : ℕ) (l l' : List ℕ) (r : Parsed) → Chained f (inside (Accepted i n k)) l l' r → Met (f i) (n + 1) 0 l l' r
-unfolding Chained inside
-began f i n k l l' r h = h
-
-gone : (f : Reader) (d : Refusal) (l l' : List ℕ) (r : Parsed) → Chained f (inside (Refused d)) l l' r → r ≡ Refused d
-unfolding Chained inside
-gone f d l l' r h = h
-
-small-refused : (e : Refusal) → Small (Refused e)
-unfolding Small
-small-refused e = tt
-
-pub ready-first : (c c' : ℕ) → c + 2 ≤ c' → c' ≤ 16 → (f : Reader) (p q r : Parsed) (l l' : List ℕ) (s : Input) → Chained f q l l' r → q ≡ inside p → Bounded 0 0 1 s f → Ready c s p → Ready c' s r
-unfolding Ready
-ready-first c c' x y f (Accepted i n k) q r l l' s h e b a = one_more c c' x y s i n k (f i) l l' r (b.sized i) a (began f i n k l l' r (rw e at h))
-ready-first c c' x y f (Refused d) q r l l' s h e b a = rw (gone f d l l' r (rw e at h)) tt
-
-over_met : (c : ℕ) (s : Input) (i n k : ℕ) (o : Outcome) (l l' : List ℕ) (r : Parsed) → Sized 0 0 1 s i o → At c s i n k → Met o n k l l' r → Small r
-unfolding Met Small
-over_met c s i n k (accept ts j) l l' (Accepted v m w) z a h = let f = z.fit ts j refl in omega (arith, h.rows, f.room, count-size ts, f.inside a.here, a.kids, a.few)
-over_met c s i n k (accept ts j) l l' (Refused d) z a h = absurd h
-over_met c s i n k (refuse e) l l' (Accepted v m w) z a h = absurd h
-over_met c s i n k (refuse e) l l' (Refused d) z a h = tt
-
-pub small_over : (c : ℕ) (f : Reader) (q r : Parsed) (l l' : List ℕ) (d : ℕ) (s : Input) (p : Parsed) → Chained f q l l' r → Ready d s p → Bounded 0 0 1 s f → Ready c s q → Small r
-unfolding Chained Ready
-small_over c f (Accepted i n k) r l l' d s p h z b a = over_met c s i n k (f i) l l' r (b.sized i) a h
-small_over c f (Refused e) r l l' d s p h z b a = rw h (small-refused e)
-
-pub near_again : (c : ℕ) (s : Input) (p q : Parsed) → q ≡ p → Ready c s p → Near q
-near_again c s p q e h = near-ready c s q (ready_again c s p q e h)
-
--- the children of a node over one name
-module _ (s : Input) (p q : Parsed) (i n k : ℕ) (h : Ready 3 s p) (a : q ≡ inside p) (b : q ≡ Accepted i n k) where
-  inside-ready : Ready 4 s q
-  inside-ready = ready-inside 3 4 (omega arith) (omega arith) s p q a h
-
-  pub inside-below : Below i n k
-  inside-below = ready-below 4 s q i n k inside-ready b
-
-module _ (tokens text : List ℕ) (end : ℕ) (p q : Parsed) (i n k : ℕ) (h : Ready 3 (input tokens text end) p) (a : q ≡ inside p) (b : q ≡ Accepted i n k) where
-  pub inside-short : length text ≤ 65536
-  inside-short = (ready_at 4 (input tokens text end) q i n k (inside-ready (input tokens text end) p q i n k h a b) b).short
-
-  inside-small : (f : Reader) (r : Parsed) (l l' : List ℕ) → Chained f q l l' r → Steady (input tokens text end) f → Small r
-  inside-small f r l l' m g = small-after 4 f q r l l' 3 (input tokens text end) p m h g (inside-ready (input tokens text end) p q i n k h a b)
-
-  module _ (t : Token) (r : Parsed) (l l' : List ℕ) (e : t ≡ token_for tokens end p) where
-    pub name-small : is_symbol t ≡ true → Met (ident_at t.pos t.word1 (ident_refusal (spelled text t.word1)) i) n k l l' r → Small r
-    name-small v m = inside-small (parse_ident (input tokens text end)) r l l' (name-inside tokens text end i n k p q r t l l' e v a b m) (ident_steady (input tokens text end))
-
-    pub const_small : is_const text t ≡ true → Met (ident_at t.pos (without_first t.word1) (const_refusal (spelled text t.word1)) i) n k l l' r → Small r
-    const_small v m = inside-small (parse_const (input tokens text end)) r l l' (const_inside tokens text end i n k p q r t l l' e v a b m) (const_steady (input tokens text end))
+pub ident_row : (s : Input) → BoundedAt 1 0 0 s (λ _. parse_ident s)
+ident_row s = row_item 2 s (parse_ident s) (ident-bounded s)

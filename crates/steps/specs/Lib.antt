@@ -1,3 +1,4 @@
 pub mod Keywords
 pub mod Outcome
 pub mod Met
+pub mod Sizes

@@ -1,132 +1,106 @@
 -- What the parse functions promise of the state that they return and of the output.
-use Rattle.std.specs.Prelude.{ℕ, ◌+◌, ◌*◌, ◌≤◌, ◌<◌, ◌≡◌, List, Bool, false, not, length, leb}
+use Rattle.std.specs.Prelude.{ℕ, ◌+◌, ◌*◌, ◌≤◌, ◌<◌, ◌≡◌, List, length, leb, true, false, Result, Ok, Err}
 use Rattle.trees.specs.Choice.{pick}
-use Rattle.trees.specs.Names.{Nonempty, without_first}
+use Rattle.trees.specs.Names.{Nonempty}
 use Rattle.trees.specs.Tree.{Trees, count, record_of, records_all}
 use Rattle.trees.specs.declared.Head.{Head}
 use Rattle.records.specs.Slots.{put, writes}
 use Rattle.records.specs.Result.{accepted, refused}
+use Rattle.records.specs.declared.Ground.{Ground}
+use Rattle.records.specs.Grounds.{number}
 use Rattle.tokens.specs.declared.Token.{Token}
-use Rattle.tokens.specs.Token.{token_at, past_last, is_rparen}
-use Rattle.tokens.specs.Input.{Input, size}
-use Rattle.steps.specs.declared.Cut.{Cut}
-use Rattle.steps.specs.declared.Cut.TheVariants.{Name, NoName}
-use Rattle.steps.specs.declared.Parsed.{Parsed}
-use Rattle.steps.specs.declared.Parsed.TheVariants.{Accepted, Refused}
-use Rattle.steps.specs.Outcome.{Outcome, accept, refuse, Reader}
+use Rattle.tokens.specs.Token.{is_symbol}
+use Rattle.tokens.specs.Input.{Input, input, size, peek}
+use Rattle.steps.specs.declared.Source.{Source}
+use Rattle.steps.specs.declared.State.{State}
+use Rattle.steps.specs.declared.Stop.{Stop}
+use Rattle.steps.specs.Outcome.{Outcome, accept, refuse, Reader, Refusal, refusal, unexpected}
 
--- the number that document 01 gives to a state in which reading ends, with space for so many records: their count, or 6; or the refusal and its place
-unfoldable pub number_of : ℕ → Parsed → ℕ
-number_of space (Accepted next count items) = pick (leb count space) (accepted count) (refused 6 0)
-number_of space (Refused e) = refused e.code e.place
+-- what is read, as the definitions speak of it
+abbrev pub seen : Source → Input
+seen s = input s.tokens.now s.text.now s.end
+
+-- why reading stopped, in document 01's number
+abbrev pub told : Stop → Refusal
+told d = refusal (number d.why) d.place d.taken
+
+abbrev pub state : ℕ → ℕ → ℕ → State
+state next count items = record { next = next; count = count; items = items }
+
+-- the number that document 01 gives to what reading comes to, with space for so many records: their count, or 6; or the refusal and its place
+unfoldable pub number_of : ℕ → Result State Stop → ℕ
+number_of space (Ok q) = pick (leb q.count space) (accepted q.count) (refused 6 0)
+number_of space (Err d) = refused (number d.why) d.place
 
 -- the row ts, read up to token j, stands in the output from slot n on, after k trees of its row
-pub record Taken (ts : Trees) (j n k : ℕ) (l l' : List ℕ) (next slot items : ℕ) : Type 0 where
-  pub ends : next ≡ j
-  pub counted : slot ≡ n + length (records_all ts)
-  pub rows : items ≡ k + count ts
+pub record Taken (ts : Trees) (j n k : ℕ) (l l' : List ℕ) (q : State) : Type 0 where
+  pub ends : q.next ≡ j
+  pub counted : q.count ≡ n + length (records_all ts)
+  pub rows : q.items ≡ k + count ts
   pub wrote : l' ≡ writes l n (records_all ts)
 
--- r is the state that the outcome makes of a state at slot n with k trees in its row, and l' the output that it makes of l
-unfoldable pub Met : Outcome → ℕ → ℕ → List ℕ → List ℕ → Parsed → Type 0
-Met (accept ts j) n k l l' (Accepted next slot items) = Taken ts j n k l l' next slot items
-Met (accept ts j) n k l l' (Refused d) = ⊥
-Met (refuse e) n k l l' (Accepted next slot items) = ⊥
-Met (refuse e) n k l l' (Refused d) = d ≡ e
+-- r is what the outcome makes of a state at slot n with k trees in its row, and l' the output that it makes of l
+unfoldable pub Met : Outcome → ℕ → ℕ → List ℕ → List ℕ → Result State Stop → Type 0
+Met (accept ts j) n k l l' (Ok q) = Taken ts j n k l l' q
+Met (accept ts j) n k l l' (Err d) = ⊥
+Met (refuse e) n k l l' (Ok q) = ⊥
+Met (refuse e) n k l l' (Err d) = told d ≡ e
 
--- the promise: r is what reading f at the state p gives, and a refusal stays as it is
-unfoldable pub Chained : Reader → Parsed → List ℕ → List ℕ → Parsed → Type 0
-Chained f (Accepted i n k) l l' r = Met (f i) n k l l' r
-Chained f (Refused e) l l' r = r ≡ Refused e
+-- the promise: r is what reading f at the state p gives
+pub record Chained (f : Reader) (p : State) (l l' : List ℕ) (r : Result State Stop) : Type 0 where
+  pub met : Met (f p.next) p.count p.items l l' r
 
 -- the same of an f that also takes how many trees stand in the row
-unfoldable pub ChainedAt : (ℕ → Reader) → Parsed → List ℕ → List ℕ → Parsed → Type 0
-ChainedAt f (Accepted i n k) l l' r = Met (f k i) n k l l' r
-ChainedAt f (Refused e) l l' r = r ≡ Refused e
+abbrev pub ChainedAt : (ℕ → Reader) → State → List ℕ → List ℕ → Result State Stop → Type 0
+ChainedAt f p l l' r = Chained (f p.items) p l l' r
 
 -- the same of an f that reads no tree and so touches no output
-unfoldable pub moved_to : ℕ → ℕ → Outcome → Parsed
-moved_to n k (accept ts j) = Accepted j n k
-moved_to n k (refuse e) = Refused e
-
-unfoldable pub moved : Reader → Parsed → Parsed
-moved f (Accepted i n k) = moved_to n k (f i)
-moved f (Refused e) = Refused e
+pub record Moved (f : Reader) (p : State) (r : Result State Stop) : Type 0 where
+  pub same : (l : List ℕ) → Chained f p l l r
 
 -- the state in which a node's first child is read: its own record's slot is left free
-unfoldable pub inside : Parsed → Parsed
-inside (Accepted i n k) = Accepted i (n + 1) 0
-inside (Refused e) = Refused e
+abbrev pub inside : State → State
+inside p = state p.next (p.count + 1) 0
 
 -- the node h, begun at p, over the children that q has read
-unfoldable pub Closed : Head → Parsed → Parsed → List ℕ → List ℕ → Parsed → Type 0
-Closed h (Accepted i n k) (Accepted j m c) l l' r = (r ≡ Accepted j m (k + 1)) × (l' ≡ put l n (record_of h c))
-Closed h (Accepted i n k) (Refused e) l l' r = r ≡ Refused e
-Closed h (Refused e) q l l' r = r ≡ Refused e
+pub record Closed (h : Head) (p q : State) (l l' : List ℕ) (r : State) : Type 0 where
+  pub one : r ≡ state q.next q.count (p.items + 1)
+  pub wrote : l' ≡ put l p.count (record_of h q.items)
 
 -- the node h without children, of the one token at p
-unfoldable pub Leafed : Head → Parsed → List ℕ → List ℕ → Parsed → Type 0
-Leafed h (Accepted i n k) l l' r = (r ≡ Accepted (i + 1) (n + 1) (k + 1)) × (l' ≡ put l n (record_of h 0))
-Leafed h (Refused e) l l' r = r ≡ Refused e
-
--- the next token, and the one after it
-unfoldable pub token_for : List ℕ → ℕ → Parsed → Token
-token_for tokens end (Accepted i n k) = token_at tokens end i
-token_for tokens end (Refused e) = past_last end
-
-unfoldable pub second_for : List ℕ → ℕ → Parsed → Token
-second_for tokens end (Accepted i n k) = token_at tokens end (i + 1)
-second_for tokens end (Refused e) = past_last end
-
--- t is the next token, where reading goes on
-unfoldable pub Next : List ℕ → ℕ → Parsed → Token → Type 0
-Next tokens end (Accepted i n k) t = t ≡ token_at tokens end i
-Next tokens end (Refused e) t = Unit {0}
-
--- whether a row goes on: nothing is refused, and the test says no stop
-unfoldable pub goes_on : (ℕ → Bool) → Parsed → Bool
-goes_on stop (Accepted i n k) = not (stop i)
-goes_on stop (Refused e) = false
-
--- a row ends at a `)`
-abbrev pub ends_at : List ℕ → ℕ → ℕ → Bool
-ends_at tokens end i = is_rparen (token_at tokens end i)
+pub record Leafed (h : Head) (p : State) (l l' : List ℕ) (r : State) : Type 0 where
+  pub one : r ≡ state (p.next + 1) (p.count + 1) (p.items + 1)
+  pub wrote : l' ≡ put l p.count (record_of h 0)
 
 -- what a parse function may count on: the limits of document 01, with one record behind the tokens where the lexer stops, and at most three records for
 -- each token, c more allowed
-pub record At (c : ℕ) (s : Input) (i n k : ℕ) : Type 0 where
+pub record Ready (c : ℕ) (s : Input) (p : State) : Type 0 where
   pub few : size s ≤ 16385
   pub short : length s.text ≤ 65536
-  pub here : i ≤ size s
-  pub room : n ≤ 3 * i + c
-  pub kids : k ≤ 3 * i + 16
+  pub here : p.next ≤ size s
+  pub room : p.count ≤ 3 * p.next + c
+  pub kids : p.items ≤ 3 * p.next + 16
   pub slack : c ≤ 16
 
-unfoldable pub Ready : ℕ → Input → Parsed → Type 0
-Ready c s (Accepted i n k) = At c s i n k
-Ready c s (Refused e) = Unit {0}
+-- how far q is from p: at least u tokens on, all of them there, and at most three records for each, with c to spare and d too many at most
+pub record Within (u c d : ℕ) (s : Input) (p q : State) : Type 0 where
+  pub on : p.next + u ≤ q.next
+  pub inside : p.next ≤ size s → q.next ≤ size s
+  pub room : q.count + 3 * p.next + c ≤ p.count + 3 * q.next + d
+  pub kids : q.items + 3 * p.next + c ≤ p.items + 3 * q.next + d
 
 -- numbers that may be counted on; a row that a record's child count holds
-pub record Below (i n k : ℕ) : Type 0 where
-  pub at : i < 4294967296
-  pub slot : n < 4294967296
-  pub row : k < 65536
+pub record Near (p : State) : Type 0 where
+  pub at : p.next < 4294967296
+  pub slot : p.count < 4294967296
+  pub row : p.items < 65536
 
-unfoldable pub Near : Parsed → Type 0
-Near (Accepted i n k) = Below i n k
-Near (Refused e) = Unit {0}
+-- a symbol stands next, as t; or why not
+unfoldable pub SymbolAt : Input → State → Result Token Stop → Type 0
+SymbolAt s p (Ok t) = (t ≡ peek s p.next) × (is_symbol t ≡ true)
+SymbolAt s p (Err d) = (told d ≡ unexpected (peek s p.next) p.next) × (is_symbol (peek s p.next) ≡ false)
 
-unfoldable pub Small : Parsed → Type 0
-Small (Accepted i n k) = k < 65536
-Small (Refused e) = Unit {0}
-
--- x are the flags that go by the tokens at p
-unfoldable pub Flags : (ℕ → ℕ) → Parsed → ℕ → Type 0
-Flags flags (Accepted i n k) x = x ≡ flags i
-Flags flags (Refused e) x = Unit {0}
-
--- what cutting off the `$` of a symbol of this range comes to, where c is its refusal as a constant, 0 for none: the name that is left starts one later,
--- is one shorter and is not empty
-unfoldable pub CutTo : ℕ → ℕ → Cut → Type 0
-CutTo range c (Name w) = (c ≡ 0) × (w ≡ without_first range) × Nonempty w
-CutTo range c (NoName d) = (d ≡ c) × (c ≡ 0 → ⊥)
+-- what judging a name comes to, where c is its refusal, 0 for none: the range of the name, which is not empty, or the refusal
+unfoldable pub Named : ℕ → ℕ → Result ℕ Ground → Type 0
+Named c w (Ok n) = (c ≡ 0) × (n ≡ w) × Nonempty n
+Named c w (Err g) = (number g ≡ c) × (c ≡ 0 → ⊥)

@@ -10,7 +10,12 @@ use Rattle.tokens.specs.declared.Token.{Token}
 use Rattle.tokens.specs.Token.{token_at, is_lparen, is_rparen, is_symbol, is_at, is_word}
 use Rattle.tokens.specs.Ident.{ident_refusal}
 use Rattle.tokens.specs.Input.{Input, peek, pos_at, size}
-use Rattle.steps.specs.declared.Refusal.{Refusal}
+
+-- document 01's number and place, and how many tokens were consumed
+pub record Refusal : Type 0 where
+  pub code : ℕ
+  pub place : ℕ
+  pub taken : ℕ
 
 -- trees and the index of the next token, or a refusal
 pub data Outcome : Type 0 where
@@ -20,7 +25,6 @@ pub data Outcome : Type 0 where
 abbrev pub Reader : Type 0
 Reader = ℕ → Outcome
 
--- document 01's number and place, and how many tokens were consumed
 abbrev pub refusal : ℕ → ℕ → ℕ → Refusal
 refusal code place taken = record { code = code; place = place; taken = taken }
 

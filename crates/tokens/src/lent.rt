@@ -3,8 +3,8 @@ ghost use Rattle.std.specs.Prelude.{◌≡◌, ℕ, ◌+◌, ◌*◌, ◌≤◌,
 ghost use Rattle.tokens.specs.Token.{token_count};
 ghost use Rattle.tokens.specs.Lent.{ascii, reach, good_value, good_words, good_token, first_bad};
 
+use crate::Token;
 use crate::names::{greater, spelling};
-use crate::{Token, TokenKind};
 use words::word;
 
 // Whether all bytes are below 128. It goes on to the end in any case, so that the compiler takes many bytes at once.
@@ -24,7 +24,7 @@ pub fn is_ascii(s: &[u8]) -> bool
 fn reach(text: &[u8], kind: u8) -> u64
     ensures { result ≡ reach text.now kind }
 {
-    if kind == TokenKind::Symbol as u8 {
+    if kind == Token::SYMBOL {
         text.len() as u64
     } else {
         0
@@ -36,7 +36,7 @@ fn is_good_value(text: &[u8], plain: bool, kind: u8, b: u64, c: u64) -> bool
     requires { plain ≡ ascii text.now }
     ensures { result ≡ good_value text.now kind b c }
 {
-    if kind == TokenKind::Int as u8 {
+    if kind == Token::INT {
         return true;
     }
     if c != 0 {
@@ -56,10 +56,10 @@ fn is_good_words(text: &[u8], plain: bool, end: u32, a: u64, b: u64, c: u64) -> 
     ensures { result ≡ good_words text.now end a b c }
 {
     let kind = (a / 1152921504606846976) as u8;
-    if kind == TokenKind::Nothing as u8 {
+    if kind == Token::NONE {
         return false;
     }
-    if (TokenKind::At as u8) < kind {
+    if Token::AT < kind {
         return false;
     }
     if a / 4294967296 % 268435456 != 0 {

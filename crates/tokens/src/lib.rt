@@ -5,6 +5,7 @@ pub mod lent;
 pub mod names;
 
 ghost use Rattle.std.specs.Prelude.{◌≡◌, ℕ, ◌+◌, ◌≤◌, ◌<◌, length};
+ghost use Rattle.tokens.specs.Kind.{kind_number};
 ghost use Rattle.tokens.specs.Token.{token_count, token_at, kind_at, is_lparen, is_rparen, is_symbol, is_int, is_at, is_refused, is_too_many, is_const, is_word};
 
 use names::{first_byte, spelling};
@@ -24,6 +25,15 @@ pub enum TokenKind {
     TooMany = 7,
 }
 
+impl TokenKind {
+    // Its number in a record.
+    pub fn number(self) -> u8
+        ensures { result ≡ kind_number self }
+    {
+        self as u8
+    }
+}
+
 // A token by value, as the Rust's lookahead. Past the last token the kind is `Nothing` and the position that of the end.
 #[derive(Clone, Copy)]
 pub struct Token {
@@ -34,56 +44,72 @@ pub struct Token {
 }
 
 impl Token {
-    // The bytes of a token record.
+    // The bytes of a token record, and the numbers of the kinds.
     pub const WIDTH: usize = 24;
+
+    pub const NONE: u8 = TokenKind::Nothing as u8;
+
+    pub const LPAREN: u8 = TokenKind::LParen as u8;
+
+    pub const RPAREN: u8 = TokenKind::RParen as u8;
+
+    pub const SYMBOL: u8 = TokenKind::Symbol as u8;
+
+    pub const INT: u8 = TokenKind::Int as u8;
+
+    pub const AT: u8 = TokenKind::At as u8;
+
+    pub const REFUSED: u8 = TokenKind::Refused as u8;
+
+    pub const TOO_MANY: u8 = TokenKind::TooMany as u8;
 
     pub fn is_lparen(self) -> bool
         ensures { result ≡ is_lparen self }
     {
-        self.kind == TokenKind::LParen as u8
+        self.kind == Token::LPAREN
     }
 
     pub fn is_rparen(self) -> bool
         ensures { result ≡ is_rparen self }
     {
-        self.kind == TokenKind::RParen as u8
+        self.kind == Token::RPAREN
     }
 
     pub fn is_symbol(self) -> bool
         ensures { result ≡ is_symbol self }
     {
-        self.kind == TokenKind::Symbol as u8
+        self.kind == Token::SYMBOL
     }
 
     pub fn is_int(self) -> bool
         ensures { result ≡ is_int self }
     {
-        self.kind == TokenKind::Int as u8
+        self.kind == Token::INT
     }
 
     pub fn is_at(self) -> bool
         ensures { result ≡ is_at self }
     {
-        self.kind == TokenKind::At as u8
+        self.kind == Token::AT
     }
 
     pub fn is_refused(self) -> bool
         ensures { result ≡ is_refused self }
     {
-        self.kind == TokenKind::Refused as u8
+        self.kind == Token::REFUSED
     }
 
     pub fn is_too_many(self) -> bool
         ensures { result ≡ is_too_many self }
     {
-        self.kind == TokenKind::TooMany as u8
+        self.kind == Token::TOO_MANY
     }
 
     // Whether the token is a symbol that starts with `$`.
     pub fn is_const(self, text: &[u8]) -> bool
         ensures { result ≡ is_const text.now self }
     {
-        if self.kind == TokenKind::Symbol as u8 {
+        if self.kind == Token::SYMBOL {
             first_byte(spelling(text, self.word1)) == b'$'
         } else {
             false
@@ -94,7 +120,7 @@ impl Token {
     pub fn is_word(self, text: &[u8], w: &[u8]) -> bool
         ensures { result ≡ is_word text.now w.now self }
     {
-        if self.kind == TokenKind::Symbol as u8 {
+        if self.kind == Token::SYMBOL {
             same(spelling(text, self.word1), w)
         } else {
             false
@@ -117,7 +143,7 @@ pub fn token_at(tokens: &[u8], end: u32, at: usize) -> Token
         }
     } else {
         Token {
-            kind: TokenKind::Nothing as u8,
+            kind: Token::NONE,
             pos: end,
             word1: 0,
             word2: 0,
@@ -132,7 +158,7 @@ pub fn kind_at(tokens: &[u8], at: usize) -> u8
     if at < tokens.len() / Token::WIDTH {
         (word(tokens, at * Token::WIDTH) / 1152921504606846976) as u8
     } else {
-        TokenKind::Nothing as u8
+        Token::NONE
     }
 }
 

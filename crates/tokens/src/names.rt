@@ -2,7 +2,10 @@
 ghost use Rattle.std.specs.Prelude.{◌≡◌, ℕ, ◌+◌, ◌≤◌, ◌<◌, min, max, ◌&&◌, length, get_or, ltb, leb, eqb};
 ghost use Rattle.trees.specs.Choice.{pick};
 ghost use Rattle.trees.specs.Names.{spelled};
+ghost use Rattle.records.specs.Grounds.{code};
 ghost use Rattle.tokens.specs.Ident.{letter, starts, goes_on, all_go_on, ident_refusal};
+
+use records::Ground;
 
 fn least(a: usize, b: usize) -> usize
     ensures { result ≡ min a b }
@@ -147,20 +150,29 @@ fn all_follow_short(s: &[u8]) -> bool
     true
 }
 
-// str_to_ident of the Rust: 0 where s is an identifier, and otherwise the refusal. A byte that may start may follow too, so
+// Of a short name the first wrong byte ends it, of a long one none does.
+fn may_all_follow(s: &[u8]) -> bool
+    ensures { result ≡ all_go_on s.now }
+{
+    if s.len() < 24 {
+        return all_follow_short(s);
+    }
+    all_follow(s)
+}
+
+// str_to_ident of the Rust: whether s is an identifier, and otherwise why not. A byte that may start may follow too, so
 // the first one is asked again with the others.
-pub fn ident_refusal(s: &[u8]) -> u8
-    ensures { result ≡ ident_refusal s.now }
+pub fn check_ident(s: &[u8]) -> Result<(), Ground>
+    ensures { code result ≡ ident_refusal s.now }
 {
     if s.len() == 0 {
-        return 13;
+        return Err(Ground::EmptyIdentifier);
     }
     if !may_start(s[0]) {
-        return 14;
+        return Err(Ground::FirstCharacter);
     }
-    if s.len() < 24 {
-        if all_follow_short(s) { 0 } else { 15 }
-    } else {
-        if all_follow(s) { 0 } else { 15 }
+    if !may_all_follow(s) {
+        return Err(Ground::LaterCharacter);
     }
+    Ok(())
 }

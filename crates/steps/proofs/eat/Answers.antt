@@ -1,11 +1,8 @@
-use Rattle.steps.proofs.StepLaws.{moved_stays, eat-is, near_at_next}
+use Rattle.steps.proofs.StepLaws.{ate_read, ate_within}
 use Rattle.steps.proofs.eat.Goals as goal
 
-pub returns-in_default : goal.returns-in_default
-returns-in_default c = search moved_stays
+pub returns-clause-reads : goal.returns-clause-reads
+returns-clause-reads c = search ate_read
 
-pub ate-after-requires : goal.ate-after-requires
-ate-after-requires c = search near_at_next
-
-pub returns : goal.returns
-returns c = search eat-is
+pub returns-clause-within : goal.returns-clause-within
+returns-clause-within c = search ate_within

@@ -1,5 +1,6 @@
-use Rattle.steps.proofs.StepLaws.{expect_at_is}
+use Rattle.tokens.specs.Token.{is_kind, is_at}
 use Rattle.steps.proofs.expect_at.Goals as goal
 
-pub returns : goal.returns
-returns c = search expect_at_is
+pub returns-clause-reads : goal.returns-clause-reads
+unfolding is_kind is_at
+returns-clause-reads c = c.expect_kind.ensures.reads

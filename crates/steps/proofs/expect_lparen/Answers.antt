@@ -1,5 +1,6 @@
-use Rattle.steps.proofs.StepLaws.{expect_lparen_is}
+use Rattle.tokens.specs.Token.{is_kind, is_lparen}
 use Rattle.steps.proofs.expect_lparen.Goals as goal
 
-pub returns : goal.returns
-returns c = search expect_lparen_is
+pub returns-clause-reads : goal.returns-clause-reads
+unfolding is_kind is_lparen
+returns-clause-reads c = c.expect_kind.ensures.reads

@@ -1,14 +1,17 @@
-use Rattle.steps.proofs.StepLaws.{moved_stays, token-here, near_next, expect_met, expect-refused}
+use Rattle.tokens.specs.Token.{is_lparen}
+use Rattle.steps.proofs.StepLaws.{passed, not_passed, tested, step_within}
+use Rattle.steps.proofs.SizeLaws.{met_there, lparen_kinded}
+use Rattle.steps.specs.Met.{seen}
 use Rattle.steps.proofs.expect_lparen_of.Goals as goal
 
-pub returns-in_default : goal.returns-in_default
-returns-in_default c = search moved_stays
+pub pass-requires : goal.pass-requires
+pass-requires c = met_there (seen c.args.s.now) c.args.p.next _ lparen_kinded (tested _ _ _ is_lparen _ _ _ c.requires c.is_lparen.ensures c.if-is_lparen.true)
 
-pub after-requires : goal.after-requires
-after-requires c = search near_next
+pub returns-then-is_lparen-clause-reads : goal.returns-then-is_lparen-clause-reads
+returns-then-is_lparen-clause-reads c = passed _ _ _ _ _ c.pass.ensures (tested _ _ _ is_lparen _ _ _ c.requires c.is_lparen.ensures c.if-is_lparen.true)
 
-pub returns-then-is_lparen : goal.returns-then-is_lparen
-returns-then-is_lparen c = search (expect_met, token-here)
+pub returns-then-is_lparen-clause-within : goal.returns-then-is_lparen-clause-within
+returns-then-is_lparen-clause-within c = step_within _ _ _ c.pass.ensures (met_there (seen c.args.s.now) c.args.p.next _ lparen_kinded (tested _ _ _ is_lparen _ _ _ c.requires c.is_lparen.ensures c.if-is_lparen.true))
 
-pub returns : goal.returns
-returns c = search (expect-refused, token-here)
+pub returns-clause-reads : goal.returns-clause-reads
+returns-clause-reads c = not_passed _ _ _ _ _ _ c.requires (tested _ _ _ is_lparen _ _ _ c.requires c.is_lparen.ensures c.if-is_lparen.false) c.unexpected.ensures

@@ -1,5 +1,6 @@
-use Rattle.steps.proofs.StepLaws.{expect_rparen_is}
+use Rattle.tokens.specs.Token.{is_kind, is_rparen}
 use Rattle.steps.proofs.expect_rparen.Goals as goal
 
-pub returns : goal.returns
-returns c = search expect_rparen_is
+pub returns-clause-reads : goal.returns-clause-reads
+unfolding is_kind is_rparen
+returns-clause-reads c = c.expect_kind.ensures.reads

@@ -1,14 +1,9 @@
-use Rattle.steps.proofs.StepLaws.{moved_stays, near_next, after-kind, after-other}
+use Rattle.std.proofs.Common.{◌∙◌, sym}
+use Rattle.steps.proofs.StepLaws.{refused_after, refused_other}
 use Rattle.steps.proofs.refuse_after.Goals as goal
 
-pub returns-in_default : goal.returns-in_default
-returns-in_default c = search moved_stays
-
-pub after-requires : goal.after-requires
-after-requires c = search near_next
-
-pub returns-then-t-kind : goal.returns-then-t-kind
-returns-then-t-kind c = search after-kind
+pub returns-then-t-number : goal.returns-then-t-number
+returns-then-t-number c = refused_after _ _ _ _ _ c.peek-t.ensures _ (c.if-t-number.true ∙ c.number.ensures) c.after.ensures
 
 pub returns : goal.returns
-returns c = search after-other
+returns c = refused_other _ _ _ _ _ c.peek-t.ensures _ (λ e. c.if-t-number.false (e ∙ sym c.number.ensures)) c.unexpected.ensures

@@ -1,8 +1,8 @@
 use Rattle.tokens.proofs.LentLaws.{value-int, value_spare, value_outside, value-plain, value-inside}
 use Rattle.tokens.proofs.lent.is_good_value.Goals as goal
 
-pub returns-then-kind : goal.returns-then-kind
-returns-then-kind c = search value-int
+pub returns-then-kind-eq-INT : goal.returns-then-kind-eq-INT
+returns-then-kind-eq-INT c = search value-int
 
 pub returns-then-c-ne0 : goal.returns-then-c-ne0
 returns-then-c-ne0 c = search value_spare
