@@ -6,11 +6,14 @@ use mathlib.Core.List.{List}
 use Rattle.trees.specs.Ast.{kind_pattern_var, kind_pattern_bind, kind_pattern_const_bool, kind_pattern_const_prim, kind_pattern_term, kind_pattern_wildcard, kind_pattern_and}
 use Rattle.tokens.specs.Token.{is_lparen, is_rparen, is_symbol, is_int, is_at, is_const, is_word}
 use Rattle.tokens.specs.Input.{Input, peek}
-use Rattle.steps.specs.declared.Parsed.{Parsed}
+use Rattle.std.specs.Prelude.{Result}
+use Rattle.steps.specs.declared.State.{State}
+use Rattle.steps.specs.declared.Stop.{Stop}
 use Rattle.steps.specs.Keywords.{word-wildcard, word-true, word-false, word_and}
 use Rattle.steps.specs.Outcome.{Reader, ◌⊳◌, parent, leaf, plain, refuse_at, if_next, if_second, row, expect-lparen, expect-rparen, expect-at, expect-word, parse_ident, parse_const}
-use Rattle.steps.specs.Met.{Chained}
-use Rattle.steps.proofs.SizeLaws.{Bounded, Steady, Item, steady, item, then_bounded, parent-bounded, next-bounded, second-bounded, leaf-bounded, refuse-bounded, int_kinded, word_kinded, lparen-bounded, rparen-bounded, at-bounded, word-bounded, ident-bounded, const_bounded}
+use Rattle.steps.specs.Sizes.{Bounded}
+use Rattle.steps.specs.Met.{Chained, Moved}
+use Rattle.steps.proofs.SizeLaws.{Steady, Item, steady, item, then_bounded, parent-bounded, next-bounded, second-bounded, leaf-bounded, refuse-bounded, int_kinded, word_kinded, lparen-bounded, rparen-bounded, at-bounded, word-bounded, ident-bounded, const_bounded}
 use Rattle.steps.proofs.RowLaws.{row_steady}
 use Rattle.patterns.specs.Pattern.{const_int, compound, pattern_in, parse_pattern}
 
@@ -31,7 +34,7 @@ module _ (s : Input) (sub : Reader) (b : Bounded 1 1 0 s sub) where
       parent-bounded (2 + 0 + 1) (5 + c + 0 + 3) (0 + 0 + 0) 1 1 0 s kind 0 (f ⊳ row s sub ⊳ expect-rparen s) (omega arith) (omega arith)
       (then_bounded (2 + 0) (5 + c + 0) (0 + 0) 1 3 0 s (f ⊳ row s sub) (expect-rparen s) (then_bounded 2 (5 + c) 0 0 0 0 s f (row s sub) z rows) (rparen-bounded s))
 
-  compound-bounded : Bounded 1 1 0 s (compound s sub)
+  pub compound-bounded : Bounded 1 1 0 s (compound s sub)
   unfolding compound
   compound-bounded =
       next-bounded 1 1 0 s is_symbol
@@ -97,7 +100,7 @@ unfolding parse_pattern
 one_less s zero h = absurd (h refl)
 one_less s (suc d) h = let e : suc d - 1 ≡ d = omega arith in rw e
 
-module _ (s : Input) (d : ℕ) (p r : Parsed) (l l' : List ℕ) where
+module _ (s : Input) (d : ℕ) {p : State} {r : Result State Stop} {l l' : List ℕ} where
   pub too_deep : d ≡ 0 → Chained (refuse_at s 8) p l l' r → Chained (parse_pattern s d) p l l' r
   unfolding parse_pattern
   too_deep e m = rw e m

@@ -222,8 +222,8 @@ within_met u c d s p (refuse e) l l' (Err x) z m = tt
 pub bounded_within : {u c d : ℕ} {s : Input} {f : Reader} {p : State} {l l' : List ℕ} {r : Result State Stop} → Bounded u c d s f → Chained f p l l' r → IfOk r (Within u c d s p)
 bounded_within {u = u} {c = c} {d = d} {s = s} {f = f} {p = p} {l = l} {l' = l'} {r = r} b m = within_met u c d s p (f p.next) l l' r (b.sized p.next) m.met
 
-module _ {s : Input} {q r : State} (v : Within 1 0 0 s q r) where
-  pub ready_on : {c : ℕ} → Ready c s q → Ready c s r
+module _ {c : ℕ} {s : Input} {q r : State} (v : Within 1 c 0 s q r) where
+  pub ready_on : {d : ℕ} → Ready d s q → Ready d s r
   ready_on a = record { few = a.few; short = a.short; here = v.inside a.here; room = omega (arith, a.room, v.room); kids = omega (arith, a.kids, v.kids); slack = a.slack }
 
   pub within_on : {p : State} → Within 0 0 0 s p q → Within 0 0 0 s p r

@@ -80,7 +80,7 @@ pub fn ident_node_of(
     requires next { t ≡ peek (seen s.now) p.next }
     requires symbol { is_symbol t ≡ true }
     ensures reads { Chained (parent (seen s.now) (kind_number kind) 0 (parse_ident (seen s.now))) p out.old out.new result }
-    ensures within { IfOk result (Within 1 0 0 (seen s.now) p) }
+    ensures within { IfOk result (Within 1 1 0 (seen s.now) p) }
 {
     let q = put_name(s, out, inside(p), t)?;
     Ok(close_of(out, p, kind, 0, q, t))
@@ -98,7 +98,7 @@ pub fn const_node_of(
     requires next { t ≡ peek (seen s.now) p.next }
     requires constant { is_const s.now.text.now t ≡ true }
     ensures reads { Chained (parent (seen s.now) (kind_number kind) 0 (parse_const (seen s.now))) p out.old out.new result }
-    ensures within { IfOk result (Within 1 0 0 (seen s.now) p) }
+    ensures within { IfOk result (Within 1 1 0 (seen s.now) p) }
 {
     let q = put_const(s, out, inside(p), t)?;
     Ok(close_of(out, p, kind, 0, q, t))

@@ -1,9 +1,8 @@
-use mathlib.Core.Path.{◌≡◌}
-use lib.ListN.{length}
-use Prim.Native.Nat.{◌+◌, ◌*◌}
-use Rattle.tokens.specs.Input.{input}
-use Rattle.steps.specs.Met.{Ready, ends_at}
-use Rattle.steps.proofs.RowLaws.{Going, left}
+use Rattle.std.proofs.Common.{ℕ, suc, ◌+◌, ◌-◌, ◌*◌}
+use Rattle.tokens.specs.Token.{is_rparen}
+use Rattle.tokens.specs.Input.{peek, size}
+use Rattle.steps.specs.Met.{seen, Ready, Within}
+use Rattle.steps.proofs.RowLaws.{Going}
 use Rattle.patterns.specs.Pattern.{parse_pattern}
 use Rattle.patterns.proofs.+pattern.Given as goal
 
@@ -26,7 +25,7 @@ abbrev pub decreases-parse_term : goal.decreases-parse_term
 decreases-parse_term l = 4 * l.depth + 2
 
 abbrev pub invariant-parse_patterns-loop-out : goal.invariant-parse_patterns-loop-out
-invariant-parse_patterns-loop-out l = Going (input l.tokens l.text l.end) (ends_at l.tokens l.end) (λ _. parse_pattern (input l.tokens l.text l.end) l.depth) l.initial.q l.initial.out l.q l.out × Ready 3 (input l.tokens l.text l.end) l.q × (length l.out ≡ length l.initial.out)
+invariant-parse_patterns-loop-out l = record { going : Going (seen l.s) (λ i. is_rparen (peek (seen l.s) i)) (λ _. parse_pattern (seen l.s) l.depth) l.initial.q l.initial.out l.q l.out; ready : Ready 3 (seen l.s) l.q; within : Within 0 0 0 (seen l.s) l.initial.q l.q }
 
 abbrev pub decreases-parse_patterns-loop-out : goal.decreases-parse_patterns-loop-out
-decreases-parse_patterns-loop-out l = left (input l.tokens l.text l.end) l.q
+decreases-parse_patterns-loop-out l = suc (size (seen l.s)) - l.q.next

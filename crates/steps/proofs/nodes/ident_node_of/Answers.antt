@@ -18,4 +18,4 @@ returns-clause-reads c = node_read _ (closed_of (seen c.args.s.now) c.requires.n
 
 pub returns-clause-within : goal.returns-clause-within
 unfolding parse_ident
-returns-clause-within c = bounded_within (parent-bounded 1 2 0 1 0 0 _ _ _ _ (omega arith) (omega arith) (ident-bounded (seen c.args.s.now))) (node_read _ (closed_of (seen c.args.s.now) c.requires.next c.close_of.ensures) c.inside.ensures (by_name (seen c.args.s.now) ident_refusal (λ w. w) c.inside.result c.args.t _ _ _ (next_inside (seen c.args.s.now) c.args.p c.inside.result _ c.requires.next c.inside.ensures) c.requires.symbol c.in_ok-q.ensures.reads))
+returns-clause-within c = bounded_within (parent-bounded 1 2 0 1 1 0 _ _ _ _ (omega arith) (omega arith) (ident-bounded (seen c.args.s.now))) (node_read _ (closed_of (seen c.args.s.now) c.requires.next c.close_of.ensures) c.inside.ensures (by_name (seen c.args.s.now) ident_refusal (λ w. w) c.inside.result c.args.t _ _ _ (next_inside (seen c.args.s.now) c.args.p c.inside.result _ c.requires.next c.inside.ensures) c.requires.symbol c.in_ok-q.ensures.reads))
