@@ -6,18 +6,21 @@ use mathlib.Core.List.{List}
 use Rattle.trees.specs.Ast.{kind_expr_term, kind_expr_var, kind_expr_const_bool, kind_expr_const_prim, kind_expr_let, kind_let_def}
 use Rattle.tokens.specs.Token.{is_lparen, is_rparen, is_symbol, is_int, is_const, is_word}
 use Rattle.tokens.specs.Input.{Input, peek}
-use Rattle.steps.specs.declared.Parsed.{Parsed}
+use Rattle.std.specs.Prelude.{Result}
+use Rattle.steps.specs.declared.State.{State}
+use Rattle.steps.specs.declared.Stop.{Stop}
 use Rattle.steps.specs.Keywords.{word-true, word-false, word_let}
 use Rattle.steps.specs.Outcome.{Reader, ◌⊳◌, parent, leaf, plain, refuse_at, if_next, row, expect-lparen, expect-rparen, expect-word, parse_ident, parse_const}
+use Rattle.steps.specs.Sizes.{Bounded}
 use Rattle.steps.specs.Met.{Chained}
-use Rattle.steps.proofs.SizeLaws.{Bounded, Steady, Item, steady, item, then_bounded, parent-bounded, next-bounded, second-bounded, leaf-bounded, refuse-bounded, int_kinded, word_kinded, lparen-bounded, rparen-bounded, word-bounded, ident-bounded, const_bounded}
+use Rattle.steps.proofs.SizeLaws.{Steady, Item, steady, item, then_bounded, parent-bounded, next-bounded, second-bounded, leaf-bounded, refuse-bounded, int_kinded, word_kinded, lparen-bounded, rparen-bounded, word-bounded, ident-bounded, const_bounded}
 use Rattle.steps.proofs.RowLaws.{row_steady}
 use Rattle.exprs.specs.Expr.{const_int, parse_letdef, let_inside, parse_expr_inner_parens, expr_in, parse_expr}
 
 -- ---- at least a token, and a record to spare
 
 module _ (s : Input) (sub : Reader) (b : Bounded 1 1 0 s sub) where
-  letdef_bounded : Bounded 1 1 0 s (parse_letdef s sub)
+  pub letdef_bounded : Bounded 1 1 0 s (parse_letdef s sub)
   unfolding parse_letdef
   letdef_bounded =
       parent-bounded 5 11 0 1 1 0 s kind_let_def 0 (expect-lparen s ⊳ parse_ident s ⊳ parse_ident s ⊳ sub ⊳ expect-rparen s) (omega arith) (omega arith)
@@ -33,7 +36,7 @@ module _ (s : Input) (sub : Reader) (b : Bounded 1 1 0 s sub) where
   rows_steady = row_steady s (λ i. is_rparen (peek s i)) sub (item 1 s sub b)
 
   -- the inside of a let
-  inside-bounded : Bounded 5 13 0 s (let_inside s sub)
+  pub inside-bounded : Bounded 5 13 0 s (let_inside s sub)
   unfolding let_inside
   inside-bounded =
       then_bounded 4 10 0 1 3 0 s (expect-word s word_let ⊳ expect-lparen s ⊳ row s (parse_letdef s sub) ⊳ expect-rparen s ⊳ sub) (expect-rparen s)
@@ -122,7 +125,7 @@ unfolding parse_expr
 one_less s zero h = absurd (h refl)
 one_less s (suc d) h = let e : suc d - 1 ≡ d = omega arith in rw e
 
-module _ (s : Input) (d : ℕ) (p r : Parsed) (l l' : List ℕ) where
+module _ (s : Input) (d : ℕ) {p : State} {r : Result State Stop} {l l' : List ℕ} where
   pub too_deep : d ≡ 0 → Chained (refuse_at s 8) p l l' r → Chained (parse_expr s d) p l l' r
   unfolding parse_expr
   too_deep e m = rw e m

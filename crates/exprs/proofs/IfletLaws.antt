@@ -7,14 +7,12 @@ use mathlib.Core.Bool.{Bool, true, false, not}
 use Rattle.trees.specs.Choice.{pick}
 use Rattle.trees.specs.Ast.{kind_if_let, kind_pattern_wildcard}
 use Rattle.tokens.specs.declared.Token.{Token}
-use Rattle.tokens.specs.Token.{token_at, past_last, is_lparen, is_word}
-use Rattle.tokens.specs.Input.{Input, input, size}
-use Rattle.steps.specs.declared.Parsed.{Parsed}
-use Rattle.steps.specs.declared.Parsed.TheVariants.{Accepted, Refused}
+use Rattle.tokens.specs.Token.{is_lparen, is_word}
+use Rattle.tokens.specs.Input.{Input, peek, size}
+use Rattle.steps.specs.Sizes.{Bounded}
 use Rattle.steps.specs.Keywords.{word_if, word_if_let}
 use Rattle.steps.specs.Outcome.{Reader, ◌⊳◌, parent, nothing, if_second, many, expect-lparen, expect-rparen, expect-word}
-use Rattle.steps.specs.Met.{token_for, second_for, goes_on}
-use Rattle.steps.proofs.SizeLaws.{Bounded, Steady, Item, steady, item, less_bounded, then_bounded, parent-bounded, next-bounded, second-bounded, nothing-bounded, lparen-bounded, rparen-bounded, word-bounded}
+use Rattle.steps.proofs.SizeLaws.{Steady, Item, steady, item, less_bounded, then_bounded, parent-bounded, next-bounded, second-bounded, nothing-bounded, lparen-bounded, rparen-bounded, word-bounded}
 use Rattle.steps.proofs.RowLaws.{row_steady}
 use Rattle.patterns.specs.Pattern.{parse_pattern}
 use Rattle.patterns.proofs.PatternLaws.{pattern-bounded}
@@ -70,31 +68,22 @@ module _ (s : Input) where
   pub iflets_steady : Steady s (many (size s) (no_iflet s) (parse_iflet_or_expr s))
   iflets_steady = row_steady s (no_iflet s) (parse_iflet_or_expr s) either_item
 
--- ---- one more if-let
+-- ---- whether no more if-let stands there
 
-no_more : (end : ℕ) → is_lparen (past_last end) ≡ false
-unfolding is_lparen
-no_more end = refl
+module _ (s : Input) (i : ℕ) (t : Token) (a : Bool) (x : t ≡ peek s i) (q : a ≡ is_lparen t) where
+  pub none_there : a ≡ false → true ≡ no_iflet s i
+  unfolding no_iflet
+  none_there v = rw (← x, ← q, v)
 
--- the test at a state, by the two tokens
-more_by : (tokens text : List ℕ) (end : ℕ) (p : Parsed) → goes_on (no_iflet (input tokens text end)) p
-    ≡ pick (is_lparen (token_for tokens end p)) (pick (is_word text word_if_let (second_for tokens end p)) true (is_word text word_if (second_for tokens end p))) false
-unfolding goes_on no_iflet token_for second_for
-more_by tokens text end (Accepted i n k) = go (is_lparen (token_at tokens end i)) (is_word text word_if_let (token_at tokens end (i + 1))) (is_word text word_if (token_at tokens end (i + 1)))
-  where
-    go : (a b c : Bool) → not (pick a (pick b false (pick c false true)) true) ≡ pick a (pick b true c) false
-    go true true c = refl
-    go true false true = refl
-    go true false false = refl
-    go false b c = refl
-more_by tokens text end (Refused e) = rw (no_more end)
+  module _ (u : Token) (b : Bool) (v : a ≡ true) (y : u ≡ peek s (i + 1)) (r : b ≡ is_word s.text word_if_let u) where
+    pub iflet_there : b ≡ true → false ≡ no_iflet s i
+    unfolding no_iflet
+    iflet_there w = rw (← x, ← y, ← q, v, ← r, w)
 
-module _ (tokens text : List ℕ) (end : ℕ) (p : Parsed) (t u : Token) (a b : Bool) where
-  pub more-iflet : t ≡ token_for tokens end p → u ≡ second_for tokens end p → a ≡ is_lparen t → a ≡ true → b ≡ is_word text word_if_let u → b ≡ true → true ≡ goes_on (no_iflet (input tokens text end)) p
-  more-iflet x y q v r w = rw (more_by tokens text end p, ← x, ← y, ← q, v, ← r, w)
-
-  pub more_if : (c : Bool) → t ≡ token_for tokens end p → u ≡ second_for tokens end p → a ≡ is_lparen t → a ≡ true → b ≡ is_word text word_if_let u → b ≡ false → c ≡ is_word text word_if u → c ≡ goes_on (no_iflet (input tokens text end)) p
-  more_if c x y q v r w z = rw (more_by tokens text end p, ← x, ← y, ← q, v, ← r, w) z
-
-pub more-none : (tokens text : List ℕ) (end : ℕ) (p : Parsed) (t : Token) (a : Bool) → t ≡ token_for tokens end p → a ≡ is_lparen t → a ≡ false → false ≡ goes_on (no_iflet (input tokens text end)) p
-more-none tokens text end p t a x q v = rw (more_by tokens text end p, ← x, ← q, v)
+    pub if_there : (c : Bool) → b ≡ false → c ≡ is_word s.text word_if u → not c ≡ no_iflet s i
+    unfolding no_iflet
+    if_there c w z = rw (← x, ← y, ← q, v, ← r, w, ← z) (go c)
+      where
+        go : (k : Bool) → not k ≡ pick k false true
+        go true = refl
+        go false = refl

@@ -4,52 +4,49 @@
 
 pub mod iflets;
 
-ghost use Rattle.std.specs.Prelude.{◌≡◌, ℕ, ◌+◌, ◌-◌, ◌/◌, ◌≤◌, ◌<◌};
-ghost use Rattle.tokens.specs.Input.{Input, input};
-ghost use Rattle.steps.specs.Outcome.{row};
-ghost use Rattle.steps.specs.Met.{Ready, Chained, token_for};
+ghost use Rattle.std.specs.Prelude.{◌≡◌, ℕ, ◌+◌, ◌-◌, ◌≤◌, ◌<◌, IfOk};
+ghost use Rattle.tokens.specs.Input.{peek};
+ghost use Rattle.trees.specs.Ast.{kind_expr_let};
+ghost use Rattle.steps.specs.Outcome.{◌⊳◌, parent, row, expect-lparen};
+ghost use Rattle.steps.specs.Met.{seen, Ready, Within, Chained};
 ghost use Rattle.exprs.specs.Expr.{parse_letdef, let_inside, parse_expr_inner_parens, parse_expr};
 
+use records::Ground;
+use steps::names::parse_ident;
+use steps::nodes::{close_at, close_of, const_node_of, ident_node_of, leaf_of, put_leaf};
+use steps::parts::at_rparen;
 use steps::{
-    Parsed, again, close_at, close_of, const_node_of, expect_lparen, expect_lparen_of,
-    expect_rparen, expect_word, goes_on, ident_node_of, inside, leaf_of, next_token, parse_ident,
-    put_leaf, refuse_at, second_token,
+    Source, State, Stop, expect_lparen, expect_lparen_of, expect_rparen, expect_word, inside,
+    next_token, refuse_at, second_token,
 };
 use tokens::Token;
 use trees::{Head, Kind};
 
 // The expression at p, of at most this depth.
 #[cycle(expr)]
-pub fn parse_expr(
-    tokens: &[u8],
-    text: &[u8],
-    end: u32,
-    out: &mut [u8],
-    p: Parsed,
-    depth: usize,
-) -> Parsed
-    requires { Ready 3 (input tokens.now text.now end) p }
-    ensures { Chained (parse_expr (input tokens.now text.now end) depth) p out.old out.new result }
+pub fn parse_expr(s: &Source, out: &mut [u8], p: State, depth: usize) -> Result<State, Stop>
+    requires { Ready 4 (seen s.now) p }
+    ensures reads { Chained (parse_expr (seen s.now) depth) p out.old out.new result }
+    ensures within { IfOk result (Within 1 1 0 (seen s.now) p) }
 {
-    let q = again(p);
     if depth == 0 {
-        return refuse_at(tokens, end, q, 8);
+        return refuse_at(s, p, Ground::TooDeep);
     }
-    let t = next_token(tokens, end, q);
+    let t = next_token(s, p);
     if t.is_lparen() {
-        return parse_expr_inner_parens(tokens, text, end, out, q, depth - 1, t);
+        return parse_expr_inner_parens(s, out, p, depth - 1, t);
     }
-    if t.is_const(text) {
-        return const_node_of(tokens, text, end, out, q, Kind::ExprConstPrim as u8, t);
+    if t.is_const(s.text) {
+        return const_node_of(s, out, p, Kind::ExprConstPrim, t);
     }
-    if t.is_word(text, b"true") {
-        return leaf_of(tokens, end, out, q, Kind::ExprConstBool as u8, 1, t);
+    if t.is_word(s.text, b"true") {
+        return Ok(leaf_of(s, out, p, Kind::ExprConstBool, 1, t));
     }
-    if t.is_word(text, b"false") {
-        return leaf_of(tokens, end, out, q, Kind::ExprConstBool as u8, 0, t);
+    if t.is_word(s.text, b"false") {
+        return Ok(leaf_of(s, out, p, Kind::ExprConstBool, 0, t));
     }
     if t.is_symbol() {
-        return ident_node_of(tokens, text, end, out, q, Kind::ExprVar as u8, t);
+        return ident_node_of(s, out, p, Kind::ExprVar, t);
     }
     if t.is_int() {
         let h = Head {
@@ -59,116 +56,110 @@ pub fn parse_expr(
             word1: t.word1,
             word2: t.word2,
         };
-        return put_leaf(tokens, out, q, h);
+        return Ok(put_leaf(s, out, p, h));
     }
-    refuse_at(tokens, end, q, 26)
+    refuse_at(s, p, Ground::Expression)
 }
 
 // `(let ..)` or `(term ..)`, the `(` standing at p as t; the expressions inside are of at most this depth.
 #[cycle(expr)]
 fn parse_expr_inner_parens(
-    tokens: &[u8],
-    text: &[u8],
-    end: u32,
+    s: &Source,
     out: &mut [u8],
-    p: Parsed,
+    p: State,
     depth: usize,
     t: Token,
-) -> Parsed
-    requires ready { Ready 3 (input tokens.now text.now end) p }
-    requires t_value { t ≡ token_for tokens.now end p }
-    ensures { Chained (parse_expr_inner_parens (input tokens.now text.now end) (parse_expr (input tokens.now text.now end) depth)) p out.old out.new result }
+) -> Result<State, Stop>
+    requires ready { Ready 4 (seen s.now) p }
+    requires next { t ≡ peek (seen s.now) p.next }
+    ensures reads { Chained (parse_expr_inner_parens (seen s.now) (parse_expr (seen s.now) depth)) p out.old out.new result }
+    ensures within { IfOk result (Within 1 1 0 (seen s.now) p) }
 {
-    let u = second_token(tokens, end, p);
-    let open = expect_lparen_of(tokens, end, inside(p), t);
-    if u.is_word(text, b"let") {
-        let q = parse_let(tokens, text, end, out, open, depth);
-        return close_of(tokens, end, out, p, Kind::ExprLet as u8, 0, q, t);
+    if second_token(s, p).is_word(s.text, b"let") {
+        return parse_let_parens(s, out, p, depth, t);
     }
-    let name = parse_ident(tokens, text, end, out, open);
-    let list = parse_exprs(tokens, text, end, out, name, depth);
-    let q = expect_rparen(tokens, end, list);
-    close_of(tokens, end, out, p, Kind::ExprTerm as u8, 0, q, t)
+    let open = expect_lparen_of(s, inside(p), t)?;
+    let name = parse_ident(s, out, open)?;
+    let list = parse_exprs(s, out, name, depth)?;
+    let q = expect_rparen(s, list)?;
+    Ok(close_of(out, p, Kind::ExprTerm, 0, q, t))
+}
+
+// `(let ..)`
+#[cycle(expr)]
+fn parse_let_parens(
+    s: &Source,
+    out: &mut [u8],
+    p: State,
+    depth: usize,
+    t: Token,
+) -> Result<State, Stop>
+    requires ready { Ready 4 (seen s.now) p }
+    requires next { t ≡ peek (seen s.now) p.next }
+    ensures reads { Chained (parent (seen s.now) kind_expr_let 0 (expect-lparen (seen s.now) ⊳ let_inside (seen s.now) (parse_expr (seen s.now) depth))) p out.old out.new result }
+    ensures within { IfOk result (Within 1 1 0 (seen s.now) p) }
+{
+    let open = expect_lparen_of(s, inside(p), t)?;
+    let q = parse_let(s, out, open, depth)?;
+    Ok(close_of(out, p, Kind::ExprLet, 0, q, t))
 }
 
 // The inside of a let: `let (definitions) body)`.
 #[cycle(expr)]
-fn parse_let(
-    tokens: &[u8],
-    text: &[u8],
-    end: u32,
-    out: &mut [u8],
-    p: Parsed,
-    depth: usize,
-) -> Parsed
-    requires { Ready 3 (input tokens.now text.now end) p }
-    ensures { Chained (let_inside (input tokens.now text.now end) (parse_expr (input tokens.now text.now end) depth)) p out.old out.new result }
+fn parse_let(s: &Source, out: &mut [u8], p: State, depth: usize) -> Result<State, Stop>
+    requires { Ready 4 (seen s.now) p }
+    ensures reads { Chained (let_inside (seen s.now) (parse_expr (seen s.now) depth)) p out.old out.new result }
+    ensures within { IfOk result (Within 1 1 0 (seen s.now) p) }
 {
-    let word = expect_word(tokens, text, end, p, b"let");
-    let open = expect_lparen(tokens, end, word);
-    let defs = parse_letdefs(tokens, text, end, out, open, depth);
-    let close = expect_rparen(tokens, end, defs);
-    let body = parse_expr(tokens, text, end, out, close, depth);
-    expect_rparen(tokens, end, body)
+    let word = expect_word(s, p, b"let")?;
+    let open = expect_lparen(s, word)?;
+    let defs = parse_letdefs(s, out, open, depth)?;
+    let close = expect_rparen(s, defs)?;
+    let body = parse_expr(s, out, close, depth)?;
+    expect_rparen(s, body)
 }
 
 // `(name type value)`
 #[cycle(expr)]
-fn parse_letdef(
-    tokens: &[u8],
-    text: &[u8],
-    end: u32,
-    out: &mut [u8],
-    p: Parsed,
-    depth: usize,
-) -> Parsed
-    requires { Ready 3 (input tokens.now text.now end) p }
-    ensures { Chained (parse_letdef (input tokens.now text.now end) (parse_expr (input tokens.now text.now end) depth)) p out.old out.new result }
+fn parse_letdef(s: &Source, out: &mut [u8], p: State, depth: usize) -> Result<State, Stop>
+    requires { Ready 4 (seen s.now) p }
+    ensures reads { Chained (parse_letdef (seen s.now) (parse_expr (seen s.now) depth)) p out.old out.new result }
+    ensures within { IfOk result (Within 1 1 0 (seen s.now) p) }
 {
-    let open = expect_lparen(tokens, end, inside(p));
-    let name = parse_ident(tokens, text, end, out, open);
-    let ty = parse_ident(tokens, text, end, out, name);
-    let value = parse_expr(tokens, text, end, out, ty, depth);
-    let q = expect_rparen(tokens, end, value);
-    close_at(tokens, end, out, p, Kind::LetDef as u8, 0, q)
+    let open = expect_lparen(s, inside(p))?;
+    let name = parse_ident(s, out, open)?;
+    let ty = parse_ident(s, out, name)?;
+    let value = parse_expr(s, out, ty, depth)?;
+    let q = expect_rparen(s, value)?;
+    Ok(close_at(s, out, p, Kind::LetDef, 0, q))
 }
 
 // Let definitions up to a `)`, which is left.
+// Kept: a loop of its own beside `steps::parts::parse_row`, since a cycle that goes through a trait's method gets no proof.
 #[cycle(expr)]
-fn parse_letdefs(
-    tokens: &[u8],
-    text: &[u8],
-    end: u32,
-    out: &mut [u8],
-    p: Parsed,
-    depth: usize,
-) -> Parsed
-    requires { Ready 3 (input tokens.now text.now end) p }
-    ensures { Chained (row (input tokens.now text.now end) (parse_letdef (input tokens.now text.now end) (parse_expr (input tokens.now text.now end) depth))) p out.old out.new result }
+fn parse_letdefs(s: &Source, out: &mut [u8], p: State, depth: usize) -> Result<State, Stop>
+    requires { Ready 4 (seen s.now) p }
+    ensures reads { Chained (row (seen s.now) (parse_letdef (seen s.now) (parse_expr (seen s.now) depth))) p out.old out.new result }
+    ensures within { IfOk result (Within 0 0 0 (seen s.now) p) }
 {
     let mut q = p;
-    while goes_on(tokens, end, q) {
-        q = parse_letdef(tokens, text, end, out, q, depth);
+    while !at_rparen(s, q) {
+        q = parse_letdef(s, out, q, depth)?;
     }
-    q
+    Ok(q)
 }
 
 // Expressions up to a `)`, which is left.
+// Kept: as at `parse_letdefs`.
 #[cycle(expr)]
-fn parse_exprs(
-    tokens: &[u8],
-    text: &[u8],
-    end: u32,
-    out: &mut [u8],
-    p: Parsed,
-    depth: usize,
-) -> Parsed
-    requires { Ready 3 (input tokens.now text.now end) p }
-    ensures { Chained (row (input tokens.now text.now end) (parse_expr (input tokens.now text.now end) depth)) p out.old out.new result }
+fn parse_exprs(s: &Source, out: &mut [u8], p: State, depth: usize) -> Result<State, Stop>
+    requires { Ready 4 (seen s.now) p }
+    ensures reads { Chained (row (seen s.now) (parse_expr (seen s.now) depth)) p out.old out.new result }
+    ensures within { IfOk result (Within 0 0 0 (seen s.now) p) }
 {
     let mut q = p;
-    while goes_on(tokens, end, q) {
-        q = parse_expr(tokens, text, end, out, q, depth);
+    while !at_rparen(s, q) {
+        q = parse_expr(s, out, q, depth)?;
     }
-    q
+    Ok(q)
 }

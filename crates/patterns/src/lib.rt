@@ -13,7 +13,7 @@ ghost use Rattle.patterns.specs.Pattern.{compound, parse_pattern};
 use records::Ground;
 use steps::names::parse_ident;
 use steps::nodes::{close_of, const_node_of, ident_node_of, leaf_of, put_leaf};
-use steps::rows::at_rparen;
+use steps::parts::at_rparen;
 use steps::{
     Source, State, Stop, expect_at, expect_lparen_of, expect_rparen, expect_word, inside,
     next_token, refuse_at, second_kind, second_token,
@@ -24,7 +24,7 @@ use trees::{Head, Kind};
 // The pattern at p, of at most this depth.
 #[cycle(pattern)]
 pub fn parse_pattern(s: &Source, out: &mut [u8], p: State, depth: usize) -> Result<State, Stop>
-    requires { Ready 3 (seen s.now) p }
+    requires { Ready 4 (seen s.now) p }
     ensures reads { Chained (parse_pattern (seen s.now) depth) p out.old out.new result }
     ensures within { IfOk result (Within 1 1 0 (seen s.now) p) }
 {
@@ -66,7 +66,7 @@ fn parse_compound(
     depth: usize,
     t: Token,
 ) -> Result<State, Stop>
-    requires ready { Ready 3 (seen s.now) p }
+    requires ready { Ready 4 (seen s.now) p }
     requires next { t ≡ peek (seen s.now) p.next }
     ensures reads { Chained (compound (seen s.now) (parse_pattern (seen s.now) depth)) p out.old out.new result }
     ensures within { IfOk result (Within 1 1 0 (seen s.now) p) }
@@ -90,7 +90,7 @@ fn parse_compound(
 // A name, `@` and the pattern that it is bound over; here and below t is the next token.
 #[cycle(pattern)]
 fn parse_bind(s: &Source, out: &mut [u8], p: State, depth: usize, t: Token) -> Result<State, Stop>
-    requires ready { Ready 3 (seen s.now) p }
+    requires ready { Ready 4 (seen s.now) p }
     requires next { t ≡ peek (seen s.now) p.next }
     ensures reads { Chained (parent (seen s.now) kind_pattern_bind 0 (parse_ident (seen s.now) ⊳ expect-at (seen s.now) ⊳ parse_pattern (seen s.now) depth)) p out.old out.new result }
     ensures within { IfOk result (Within 1 1 0 (seen s.now) p) }
@@ -104,7 +104,7 @@ fn parse_bind(s: &Source, out: &mut [u8], p: State, depth: usize, t: Token) -> R
 // `(and ..)`
 #[cycle(pattern)]
 fn parse_and(s: &Source, out: &mut [u8], p: State, depth: usize, t: Token) -> Result<State, Stop>
-    requires ready { Ready 3 (seen s.now) p }
+    requires ready { Ready 4 (seen s.now) p }
     requires next { t ≡ peek (seen s.now) p.next }
     ensures reads { Chained (parent (seen s.now) kind_pattern_and 0 (expect-lparen (seen s.now) ⊳ expect-word (seen s.now) word_and ⊳ row (seen s.now) (parse_pattern (seen s.now) depth) ⊳ expect-rparen (seen s.now))) p out.old out.new result }
     ensures within { IfOk result (Within 1 1 0 (seen s.now) p) }
@@ -119,7 +119,7 @@ fn parse_and(s: &Source, out: &mut [u8], p: State, depth: usize, t: Token) -> Re
 // `(term ..)`
 #[cycle(pattern)]
 fn parse_term(s: &Source, out: &mut [u8], p: State, depth: usize, t: Token) -> Result<State, Stop>
-    requires ready { Ready 3 (seen s.now) p }
+    requires ready { Ready 4 (seen s.now) p }
     requires next { t ≡ peek (seen s.now) p.next }
     ensures reads { Chained (parent (seen s.now) kind_pattern_term 0 (expect-lparen (seen s.now) ⊳ parse_ident (seen s.now) ⊳ row (seen s.now) (parse_pattern (seen s.now) depth) ⊳ expect-rparen (seen s.now))) p out.old out.new result }
     ensures within { IfOk result (Within 1 1 0 (seen s.now) p) }
@@ -132,10 +132,10 @@ fn parse_term(s: &Source, out: &mut [u8], p: State, depth: usize, t: Token) -> R
 }
 
 // Patterns up to a `)`, which is left.
-// Kept: a loop of its own beside `steps::rows::parse_row`, since a cycle that goes through a trait's method gets no proof.
+// Kept: a loop of its own beside `steps::parts::parse_row`, since a cycle that goes through a trait's method gets no proof.
 #[cycle(pattern)]
 fn parse_patterns(s: &Source, out: &mut [u8], p: State, depth: usize) -> Result<State, Stop>
-    requires { Ready 3 (seen s.now) p }
+    requires { Ready 4 (seen s.now) p }
     ensures reads { Chained (row (seen s.now) (parse_pattern (seen s.now) depth)) p out.old out.new result }
     ensures within { IfOk result (Within 0 0 0 (seen s.now) p) }
 {

@@ -7,7 +7,7 @@ use mathlib.Core.Bool.{Bool, true, false}
 use borrow.Author.Tests.{eq-eqb, ne_eqb}
 use Rattle.std.specs.Prelude.{Result, Ok, Err}
 use Rattle.std.specs.Result.{IfOk, IsErr, IsErrAnd}
-use Rattle.std.proofs.lemmas.Result.{err_from_is_err_and}
+use Rattle.std.proofs.lemmas.Result.{err_from_is_err_and, IfOk-weaker}
 use Rattle.trees.specs.Choice.{choose}
 use Rattle.trees.specs.Tree.{Trees, node, ∅, ◌▸◌, count, head, record_of, records_all}
 use Rattle.trees.specs.declared.Head.{Head}
@@ -237,3 +237,10 @@ module _ {c : ℕ} {s : Input} {q r : State} (v : Within 1 c 0 s q r) where
 
 pub from_start : {s : Input} {p q : State} → Within 0 0 0 s p q → p.next ≤ q.next
 from_start w = omega (arith, w.on)
+
+-- less than is known
+pub within_less : (u c d u' c' d' : ℕ) (s : Input) (p : State) (r : Result State Stop) → u' ≤ u → c' + d ≤ c + d' → IfOk r (Within u c d s p) → IfOk r (Within u' c' d' s p)
+within_less u c d u' c' d' s p r x y h =
+    IfOk-weaker r (Within u c d s p) (Within u' c' d' s p)
+    (λ q w. record { on = omega (arith, x, w.on); inside = w.inside; room = omega (arith, y, w.room); kids = omega (arith, y, w.kids) })
+    h

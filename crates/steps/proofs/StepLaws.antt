@@ -9,6 +9,7 @@ use mir.Val.{bool_byte}
 use borrow.Author.Tests.{eq-eqb, ne_eqb, eqb-true}
 use Rattle.std.specs.Prelude.{Result, Ok, Err}
 use Rattle.trees.specs.Choice.{pick, choose}
+use Rattle.trees.specs.Tree.{∅}
 use Rattle.records.specs.declared.Ground.{Ground}
 use Rattle.records.specs.declared.Ground.TheVariants.{UnexpectedToken, UnexpectedEnd}
 use Rattle.records.specs.Grounds.{number}
@@ -106,3 +107,15 @@ kind_second tokens end i j x a e = a ∙ rw e (kind-is tokens end (i + 1))
 -- a token further
 pub step_within : (s : Input) (p q : State) → q ≡ state (p.next + 1) p.count p.items → p.next < size s → Within 1 3 0 s p q
 step_within s p q e h = rw e (record { on = omega arith; inside = λ z. omega arith; room = omega arith; kids = omega arith })
+
+-- a token passed is one token
+pub passed_next : (tokens : List ℕ) (end : ℕ) (test : Token → Bool) (p q : State) → Moved (expect_at tokens end test) p (Ok q) → q.next ≡ p.next + 1
+unfolding expect_at Met
+passed_next tokens end test p q m = go (test (token_at tokens end p.next)) (m.same []).met
+  where
+    go : (b : Bool) → Met (choose b (λ _. accept ∅ (p.next + 1)) (λ _. refuse (unexpected (token_at tokens end p.next) p.next))) p.count p.items [] [] (Ok q) → q.next ≡ p.next + 1
+    go true h = h.ends
+    go false h = absurd h
+
+pub second_is_next : (s : Input) (p q : State) (u : Token) → u ≡ peek s (p.next + 1) → q.next ≡ p.next + 1 → u ≡ peek s q.next
+second_is_next s p q u a e = a ∙ ap (peek s) (sym e)

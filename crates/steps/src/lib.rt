@@ -4,7 +4,7 @@
 
 pub mod names;
 pub mod nodes;
-pub mod rows;
+pub mod parts;
 
 ghost use Rattle.std.specs.Prelude.{◌≡◌, ℕ, ◌+◌, ◌-◌, ◌≤◌, ◌<◌, not, IfOk};
 ghost use Rattle.tokens.specs.Token.{token_at, kind_at, is_kind, is_lparen, is_rparen, is_at, is_word};

@@ -25,7 +25,7 @@ abbrev pub decreases-parse_term : goal.decreases-parse_term
 decreases-parse_term l = 4 * l.depth + 2
 
 abbrev pub invariant-parse_patterns-loop-out : goal.invariant-parse_patterns-loop-out
-invariant-parse_patterns-loop-out l = record { going : Going (seen l.s) (λ i. is_rparen (peek (seen l.s) i)) (λ _. parse_pattern (seen l.s) l.depth) l.initial.q l.initial.out l.q l.out; ready : Ready 3 (seen l.s) l.q; within : Within 0 0 0 (seen l.s) l.initial.q l.q }
+invariant-parse_patterns-loop-out l = record { going : Going (seen l.s) (λ i. is_rparen (peek (seen l.s) i)) (λ _. parse_pattern (seen l.s) l.depth) l.initial.q l.initial.out l.q l.out; ready : Ready 4 (seen l.s) l.q; within : Within 0 0 0 (seen l.s) l.initial.q l.q }
 
 abbrev pub decreases-parse_patterns-loop-out : goal.decreases-parse_patterns-loop-out
 decreases-parse_patterns-loop-out l = suc (size (seen l.s)) - l.q.next

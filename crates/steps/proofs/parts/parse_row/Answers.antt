@@ -1,7 +1,7 @@
 use Rattle.std.proofs.Common.{arith, sym, ◌∙◌}
 use Rattle.steps.proofs.MetLaws.{exit, ready_on, within_on, further, still_inside, from_start}
 use Rattle.steps.proofs.RowLaws.{going_start, going_on, going_stop, going_end}
-use Rattle.steps.proofs.rows.parse_row.Goals as goal
+use Rattle.steps.proofs.parts.parse_row.Goals as goal
 
 pub loop-out-init : goal.loop-out-init
 loop-out-init g c = record { going = going_start _ _ _ _ _; ready = c.requires; within = record { on = omega arith; inside = λ h. h; room = omega arith; kids = omega arith } }

@@ -2,7 +2,7 @@ use Rattle.std.proofs.Common.{◌∙◌, ap}
 use lib.Dec.{eqb}
 use Rattle.tokens.proofs.TokenLaws.{kind-is}
 use Rattle.tokens.specs.Token.{is_rparen}
-use Rattle.steps.proofs.rows.at_rparen.Goals as goal
+use Rattle.steps.proofs.parts.at_rparen.Goals as goal
 
 pub returns : goal.returns
 unfolding is_rparen
