@@ -4,28 +4,26 @@ use native.Mathlib.Omega.{arith}
 use mathlib.Core.Path.{◌≡◌, refl}
 use mathlib.Core.List.{List, [], ◌∷◌}
 use mathlib.Core.Bool.{Bool, true, false}
-use types.Run.{OneOf}
-use denote.Enum.Declared.{tag_of}
 use Rattle.trees.specs.Choice.{pick}
 use Rattle.trees.specs.Tree.{∅}
 use Rattle.trees.proofs.Laws.{size_none}
 use Rattle.trees.specs.Ast.{kind_decl, kind_extern_constructor, kind_extern_extractor, kind_extern_const, kind_extractor, kind_converter}
 use Rattle.tokens.specs.Token.{is_word}
 use Rattle.tokens.specs.Input.{Input, peek, size}
-use Rattle.steps.specs.declared.Parsed.{Parsed}
-use Rattle.steps.specs.declared.Parsed.TheVariants.{Accepted, Refused}
-use Rattle.steps.specs.contracts.Parsed.{the_type}
 use Rattle.steps.specs.Keywords.{word_pure, word_multi, word_partial, word-rec, word_constructor, word-extractor, word_infallible, word_const}
 use Rattle.steps.specs.Outcome.{Reader, ◌⊳◌, parent, flagged, refuse_at, if_next, row, expect-lparen, expect-rparen, expect-word, ate, eat, parse_ident, parse_const}
-use Rattle.steps.specs.Met.{Chained, moved, moved_to, inside, Ready, Flags}
-use Rattle.steps.proofs.StepLaws.{ready_at}
+use Rattle.std.specs.Prelude.{Result, Ok, Err}
+use Rattle.steps.specs.declared.State.{State}
+use Rattle.steps.specs.declared.Stop.{Stop}
+use Rattle.steps.specs.Sizes.{Bounded}
+use Rattle.steps.specs.Met.{state, Moved, inside}
 use Rattle.steps.proofs.MetLaws.{begun}
-use Rattle.steps.proofs.SizeLaws.{Bounded, Steady, steady, less_bounded, sized-accept, then_bounded, parent-bounded, flagged-bounded, next-bounded, refuse-bounded, met_there, word_kinded, eat_steady, lparen-bounded, rparen-bounded, word-bounded, ident-bounded, const_bounded, ready-inside, ready-after}
+use Rattle.steps.proofs.SizeLaws.{Steady, steady, less_bounded, sized-accept, then_bounded, parent-bounded, flagged-bounded, next-bounded, refuse-bounded, met_there, word_kinded, eat_steady, lparen-bounded, rparen-bounded, word-bounded, ident-bounded, const_bounded}
 use Rattle.steps.proofs.RowLaws.{idents_steady}
 use Rattle.patterns.specs.Pattern.{parse_pattern}
 use Rattle.patterns.proofs.PatternLaws.{pattern-bounded}
 use Rattle.parser.specs.Defs.{after_pure, after_multi, after_partial, after_rec, decl_flags, decl_modifiers, decl_names, parse_decl, parse_extern, etor_head, parse_etor, parse_converter}
-use Rattle.parser.specs.DeclModified.{DeclModified, DeclState}
+use Rattle.parser.specs.DeclModified.{DeclModified}
 
 -- ---- words eaten
 
@@ -51,24 +49,7 @@ decl_modified s i a b c d p q r t = record { flags = rw (t, r, q, p); ends = rw 
 
 -- ---- at a state
 
-pub state_refused : (s : Input) (p : Parsed) → OneOf (1 ∷ []) (tag_of the_type p) → DeclState s p 0 p
-unfolding Flags moved inside
-state_refused s (Accepted i n k) o = absurd (omega arith)
-state_refused s (Refused e) o = record { flags = tt; after = refl }
-
-pub state_at : (s : Input) (p : Parsed) (i n k x j : ℕ) → p ≡ Accepted i n k → DeclModified s i x j → DeclState s p x (Accepted j (n + 1) 0)
-unfolding Flags moved moved_to inside decl_modifiers
-state_at s p i n k x j e m = rw e (record { flags = m.flags; after = rw m.ends })
-
-all-passed : (s : Input) (q : Parsed) (l : List ℕ) → Chained (decl_modifiers s) q l l (moved (decl_modifiers s) q)
-unfolding moved moved_to Chained decl_modifiers
-all-passed s (Accepted i n k) l = begun (after_rec s i) n k l
-all-passed s (Refused e) l = refl
-
-pub modifiers_read : (s : Input) (p st : Parsed) (l : List ℕ) → st ≡ moved (decl_modifiers s) (inside p) → Chained (decl_modifiers s) (inside p) l l st
-modifiers_read s p st l e = rw e (all-passed s (inside p) l)
-
-modifiers_steady : (s : Input) → Steady s (decl_modifiers s)
+pub modifiers_steady : (s : Input) → Steady s (decl_modifiers s)
 unfolding decl_modifiers
 modifiers_steady s =
     record {
@@ -85,8 +66,9 @@ modifiers_steady s =
           });
     }
 
-pub modifiers_ready : (s : Input) (p st : Parsed) (l : List ℕ) → st ≡ moved (decl_modifiers s) (inside p) → Ready 3 s p → Ready 4 s st
-modifiers_ready s p st l e a = ready-after (decl_modifiers s) (inside p) l l st 4 s (modifiers_read s p st l e) (modifiers_steady s) (ready-inside 3 4 (omega arith) (omega arith) s p (inside p) refl a)
+pub modifiers_read : (s : Input) (p : State) (x j n : ℕ) → DeclModified s p.next x j → n ≡ p.count + 1 → Moved (decl_modifiers s) (inside p) (Ok (state j n 0))
+unfolding decl_modifiers
+modifiers_read s p x j n m e = record { same = λ l. record { met = rw (m.ends, e) (begun (after_rec s p.next) (p.count + 1) 0 l) } }
 
 -- ---- how far
 
@@ -162,6 +144,3 @@ module _ (s : Input) where
 
       extractors : Reader
       extractors = if_next s (is_word s.text word-extractor) extractor consts
-
-pub near-index : (c : ℕ) (s : Input) (p : Parsed) (i n k : ℕ) → Ready c s p → p ≡ Accepted i n k → i < 65536
-near-index c s p i n k h e = let a = ready_at c s p i n k h e in omega (arith, a.few, a.here)

@@ -1,34 +1,33 @@
 -- How far attributes and whole definitions read, and definitions by their word. Assumes nothing.
-use Prim.Native.Nat.{ℕ, ◌-◌, ◌/◌}
+use Prim.Native.Nat.{ℕ, ◌+◌, ◌-◌, ◌/◌}
 use native.Mathlib.Omega.{arith}
-use mathlib.Core.Path.{◌≡◌, refl}
+use mathlib.Core.Path.{◌≡◌, refl, sym, subst, ◌∙◌}
 use mathlib.Core.List.{List}
-use mathlib.Core.Bool.{Bool, true, false, not}
-use lib.ListN.{length}
-use lib.Dec.{leb, ltb}
-use borrow.Author.Tests.{le-leb, lt-leb, ltb-true, ltb-false}
+use mathlib.Core.Bool.{Bool, true, false}
+use lib.Dec.{leb}
+use Rattle.trees.specs.Choice.{pick}
 use Rattle.trees.specs.Ast.{kind_attr, kind_attr_kind_chain, kind_attr_kind_priority, kind_attr_kind_tag}
 use Rattle.tokens.specs.declared.Token.{Token}
-use Rattle.tokens.specs.Token.{token_count, is_lparen, is_rparen, is_word}
+use Rattle.tokens.specs.Token.{is_lparen, is_rparen, is_word}
 use Rattle.tokens.specs.Input.{Input, input, peek, size}
-use Rattle.steps.specs.declared.Refusal.{Refusal}
-use Rattle.steps.specs.declared.Parsed.{Parsed}
-use Rattle.steps.specs.declared.Parsed.TheVariants.{Accepted, Refused}
 use Rattle.steps.specs.Keywords.{word_pragma, word_type, word_decl, word_attr, word-rule, word-extractor, word_extern, word_convert, word_spec, word_macro, word_state, word_model, word_form, word_instantiate, word_veri, word_tag, word_chain, word-priority}
 use Rattle.steps.specs.Outcome.{Reader, ◌⊳◌, bare, refuse_after, if_next, if_second, row, expect-lparen, expect-rparen, expect-word, ate, eat, parse_ident}
-use Rattle.steps.specs.Met.{Chained, moved, second_for, goes_on}
-use Rattle.steps.proofs.MetLaws.{chain, token, refusing_after, second_yes, second_no}
-use Rattle.steps.proofs.SizeLaws.{Bounded, Steady, Item, steady, item, less_bounded, then_bounded, bare-bounded, flagged-bounded, next-bounded, second-bounded, after-bounded, eat_steady, lparen-bounded, rparen-bounded, word-bounded, ident-bounded, pragma_bounded}
+use Rattle.std.specs.Prelude.{Result, Ok, Err}
+use Rattle.steps.specs.declared.State.{State}
+use Rattle.steps.specs.declared.Stop.{Stop}
+use Rattle.steps.specs.Sizes.{Bounded}
+use Rattle.steps.specs.Met.{Chained}
+use Rattle.steps.proofs.MetLaws.{second_yes, second_no}
+use Rattle.steps.proofs.SizeLaws.{Steady, Item, steady, item, less_bounded, then_bounded, bare-bounded, flagged-bounded, next-bounded, second-bounded, after-bounded, eat_steady, lparen-bounded, rparen-bounded, word-bounded, ident-bounded, pragma_bounded}
 use Rattle.steps.proofs.RowLaws.{row_steady}
 use Rattle.parser.specs.Types.{parse_type}
 use Rattle.parser.specs.Defs.{parse_attr_kind_veri, parse_attr_kind, parse_attr, parse_decl, parse_rule, parse_etor, parse_extern, parse_converter, parse_pragma, worded, is_uncovered, other_def, rest_def, parse_def, parse_defs}
-use Rattle.parser.specs.Unread.{Unread}
 use Rattle.parser.proofs.TypeLaws.{type_bounded}
 use Rattle.parser.proofs.DeclLaws.{decl_bounded, extern_bounded, etor_bounded, converter_bounded}
 use Rattle.parser.proofs.RuleLaws.{rule-bounded}
 
 module _ (s : Input) where
-  veri_bounded : Bounded 1 1 0 s (parse_attr_kind_veri s)
+  pub veri_bounded : Bounded 1 1 0 s (parse_attr_kind_veri s)
   unfolding parse_attr_kind_veri
   veri_bounded =
       next-bounded 1 1 0 s (is_word s.text word_chain) (bare kind_attr_kind_chain (expect-word s word_chain)) (if_next s (is_word s.text word-priority) (bare kind_attr_kind_priority (expect-word s word-priority)) (refuse_after s 3 21))
@@ -48,7 +47,7 @@ module _ (s : Input) where
   unknown : (code : ℕ) → Bounded 1 1 0 s (expect-lparen s ⊳ refuse_after s 3 code)
   unknown code = less_bounded 1 3 0 1 1 0 s (expect-lparen s ⊳ refuse_after s 3 code) (omega arith) (omega arith) (then_bounded 1 3 0 0 0 0 s (expect-lparen s) (refuse_after s 3 code) (lparen-bounded s) (after-bounded 0 0 0 s 3 code))
 
-  attr_kind_bounded : Bounded 1 1 0 s (parse_attr_kind s)
+  pub attr_kind_bounded : Bounded 1 1 0 s (parse_attr_kind s)
   unfolding parse_attr_kind
   attr_kind_bounded =
       second-bounded 1 1 0 s (is_word s.text word_veri) (worded s word_veri (parse_attr_kind_veri s)) (if_second s (is_word s.text word_tag) (worded s word_tag (bare kind_attr_kind_tag (parse_ident s))) (expect-lparen s ⊳ refuse_after s 3 20))
@@ -76,7 +75,7 @@ module _ (s : Input) where
   unfolding parse_pragma
   pragma_read_bounded = less_bounded 1 2 0 1 1 0 s (parse_pragma s) (omega arith) (omega arith) (pragma_bounded s)
 
-  other-bounded : Bounded 1 1 0 s (other_def s)
+  pub other-bounded : Bounded 1 1 0 s (other_def s)
   unfolding other_def
   other-bounded = second-bounded 1 1 0 s (is_uncovered s.text) (expect-lparen s ⊳ refuse_after s 3 27) (expect-lparen s ⊳ refuse_after s 3 12) (unknown 27) (unknown 12)
 
@@ -154,31 +153,10 @@ module _ (text : List ℕ) (t : Token) where
   unfolding is_uncovered
   uncovered_6 a b c d e f a₁ a₂ b₁ b₂ c₁ c₂ d₁ d₂ e₁ e₂ f₁ = rw (← a₁, a₂, ← b₁, b₂, ← c₁, c₂, ← d₁, d₂, ← e₁, e₂) f₁
 
-unknown_read : (tokens text : List ℕ) (end code : ℕ) (p q r : Parsed) (l : List ℕ) → q ≡ moved (expect-lparen (input tokens text end)) p → r ≡ moved (refuse_after (input tokens text end) 3 code) q → Chained (expect-lparen (input tokens text end) ⊳ refuse_after (input tokens text end) 3 code) p l l r
-unknown_read tokens text end code p q r l m x =
-    chain (expect-lparen (input tokens text end)) (refuse_after (input tokens text end) 3 code) p q r l l l (refusing_after (input tokens text end) 3 code q r l x) (token tokens end is_lparen p q l m)
-
-module _ (tokens text : List ℕ) (end : ℕ) (p q r : Parsed) (u : Token) (b : Bool) where
-  pub other_uncovered : u ≡ second_for tokens end p → b ≡ is_uncovered text u → b ≡ true → q ≡ moved (expect-lparen (input tokens text end)) p → r ≡ moved (refuse_after (input tokens text end) 3 27) q → Unread (other_def (input tokens text end)) p r
-  unfolding other_def
-  other_uncovered a e c m x =
-      record { kept = λ l. second_yes (is_uncovered text) tokens text end (expect-lparen (input tokens text end) ⊳ refuse_after (input tokens text end) 3 27) (expect-lparen (input tokens text end) ⊳ refuse_after (input tokens text end) 3 12) p r u b l l a e c (unknown_read tokens text end 27 p q r l m x) }
-
-  pub other_unknown : u ≡ second_for tokens end p → b ≡ is_uncovered text u → b ≡ false → q ≡ moved (expect-lparen (input tokens text end)) p → r ≡ moved (refuse_after (input tokens text end) 3 12) q → Unread (other_def (input tokens text end)) p r
-  unfolding other_def
-  other_unknown a e c m x =
-      record { kept = λ l. second_no (is_uncovered text) tokens text end (expect-lparen (input tokens text end) ⊳ refuse_after (input tokens text end) 3 27) (expect-lparen (input tokens text end) ⊳ refuse_after (input tokens text end) 3 12) p r u b l l a e c (unknown_read tokens text end 12 p q r l m x) }
-
--- ---- one more definition
-
-below : (i n : ℕ) (b : Bool) → ltb i n ≡ b → ltb i n ≡ not (leb n i)
-below i n true e = rw (lt-leb n i (ltb-true i n e)) e
-below i n false e = rw (le-leb n i (ltb-false i n e)) e
-
-pub no_more : (tokens : List ℕ) (p : Parsed) (e : Refusal) → p ≡ Refused e → false ≡ goes_on (λ i. leb (token_count tokens) i) p
-unfolding goes_on
-no_more tokens p e h = rw h
-
-pub more-is : (tokens : List ℕ) (p : Parsed) (i n k : ℕ) → p ≡ Accepted i n k → ltb i (length tokens / 24) ≡ goes_on (λ j. leb (token_count tokens) j) p
-unfolding goes_on
-more-is tokens p i n k e = rw e (below i (token_count tokens) (ltb i (token_count tokens)) refl)
+pub other_read : (s : Input) (u : Token) (x : ℕ) {p : State} {l l' : List ℕ} {r : Result State Stop} → u ≡ peek s (p.next + 1) → x ≡ pick (is_uncovered s.text u) 27 12 → Chained (expect-lparen s ⊳ refuse_after s 3 x) p l l' r → Chained (other_def s) p l l' r
+unfolding other_def
+other_read s u x {p = p} {l = l} {l' = l'} {r = r} a e m = go (is_uncovered s.text u) refl
+  where
+    go : (b : Bool) → is_uncovered s.text u ≡ b → Chained (if_second s (is_uncovered s.text) (expect-lparen s ⊳ refuse_after s 3 27) (expect-lparen s ⊳ refuse_after s 3 12)) p l l' r
+    go true f = let z : x ≡ 27 = e ∙ rw f in second_yes s (is_uncovered s.text) _ a (sym f) refl (subst (λ (y : ℕ). Chained (expect-lparen s ⊳ refuse_after s 3 y) p l l' r) z m)
+    go false f = let z : x ≡ 12 = e ∙ rw f in second_no s (is_uncovered s.text) _ a (sym f) refl (subst (λ (y : ℕ). Chained (expect-lparen s ⊳ refuse_after s 3 y) p l l' r) z m)

@@ -4,26 +4,24 @@ use native.Mathlib.Omega.{arith}
 use mathlib.Core.Path.{◌≡◌, refl, sym, ap, ◌∙◌}
 use mathlib.Core.List.{List, [], ◌∷◌}
 use mathlib.Core.Bool.{Bool, true, false}
-use types.Run.{OneOf}
-use denote.Enum.Declared.{tag_of}
 use Rattle.trees.specs.Choice.{choose}
 use Rattle.trees.specs.Tree.{∅}
 use Rattle.trees.proofs.Laws.{size_none}
 use Rattle.tokens.specs.declared.Token.{Token}
-use Rattle.tokens.specs.Token.{token_count, token_at, is_symbol, is_word}
+use Rattle.tokens.specs.Token.{is_symbol, is_word}
 use Rattle.tokens.specs.Input.{Input, input, peek, pos_at, size}
-use Rattle.steps.specs.declared.Refusal.{Refusal}
-use Rattle.steps.specs.declared.Parsed.{Parsed}
-use Rattle.steps.specs.declared.Parsed.TheVariants.{Accepted, Refused}
-use Rattle.steps.specs.contracts.Parsed.{the_type}
 use Rattle.steps.specs.Keywords.{word_extern, word_nodebug}
 use Rattle.steps.specs.Outcome.{accept, refuse, refusal, parse_ident}
-use Rattle.steps.specs.Met.{Met, Chained, inside, Ready, Flags}
-use Rattle.steps.proofs.StepLaws.{ready_at}
-use Rattle.steps.proofs.MetLaws.{begun, ident-next}
+use Rattle.std.specs.Prelude.{Result, Ok, Err, Option, Some, None}
+use Rattle.steps.specs.declared.State.{State}
+use Rattle.steps.specs.declared.Stop.{Stop}
+use Rattle.steps.specs.Sizes.{Bounded}
+use Rattle.steps.specs.Met.{state, Met, Moved}
+use Rattle.records.specs.declared.Ground.TheVariants.{TypeModifier}
+use Rattle.steps.proofs.MetLaws.{begun}
 use Rattle.steps.proofs.SizeLaws.{Steady, sized-accept, sized-refuse, sized-choose, met_there, word_kinded}
 use Rattle.parser.specs.Types.{modifier_flags, modifiers_end, parse_modifiers}
-use Rattle.parser.specs.Modified.{Turned, ModifiedFrom, ModifiedAt, passed}
+use Rattle.parser.specs.Modified.{Turned, TurnedTo, ModifiedFrom}
 
 -- ---- how far
 
@@ -88,14 +86,6 @@ module _ (s : Input) (i f : ℕ) where
   unfolding modifiers_end
   ends-none x y = rw (x, y)
 
--- past the last token there is none
-none_past : (s : Input) (w : List ℕ) (i : ℕ) (b : Bool) → size s ≤ i → is_word s.text w (peek s i) ≡ b → b ≡ false
-none_past s w i true h e = let x : i < size s = met_there s i (is_word s.text w) (word_kinded s.text w) e in absurd (omega arith)
-none_past s w i false h e = refl
-
-past_none : (s : Input) (w : List ℕ) (i : ℕ) → size s ≤ i → is_word s.text w (peek s i) ≡ false
-past_none s w i h = none_past s w i (is_word s.text w (peek s i)) h refl
-
 flags-zero : (s : Input) (e n i : ℕ) → modifier_flags s zero e n i ≡ e + n
 unfolding modifier_flags
 flags-zero s e n i = refl
@@ -104,23 +94,30 @@ ends-zero : (s : Input) (i : ℕ) → modifiers_end s zero i ≡ i
 unfolding modifiers_end
 ends-zero s i = refl
 
-past_flags : (s : Input) (f e n i : ℕ) → size s ≤ i → modifier_flags s f e n i ≡ e + n
-past_flags s zero e n i h = flags-zero s e n i
-past_flags s (suc f) e n i h = flags-none s e n i f (past_none s word_extern i h) (past_none s word_nodebug i h)
+module _ (s : Input) (i e n : ℕ) (t : Token) (r : Bool) (b : (e ≤ 1) × (n ≤ 2)) (a : t ≡ peek s i) (p : r ≡ is_word s.text word_extern t) where
+  is_extern : {v : Bool} → r ≡ v → is_word s.text word_extern (peek s i) ≡ v
+  is_extern q = ap (is_word s.text word_extern) (sym a) ∙ sym p ∙ q
 
-past_ends : (s : Input) (f i : ℕ) → size s ≤ i → modifiers_end s f i ≡ i
-past_ends s zero i h = ends-zero s i
-past_ends s (suc f) i h = ends-none s i f (past_none s word_extern i h) (past_none s word_nodebug i h)
+  is_nodebug : {z v : Bool} → z ≡ is_word s.text word_nodebug t → z ≡ v → is_word s.text word_nodebug (peek s i) ≡ v
+  is_nodebug u q = ap (is_word s.text word_nodebug) (sym a) ∙ sym u ∙ q
 
-module _ (tokens text : List ℕ) (end i e n : ℕ) (t : Token) (r : Bool) where
-  pub turn_extern : (e ≤ 1) × (n ≤ 2) → t ≡ token_at tokens end i → r ≡ is_word text word_extern t → r ≡ true → Turned (input tokens text end) e n i true 1 n
-  turn_extern b a p q = record { flags = λ f. flags_extern (input tokens text end) e n i f (ap (is_word text word_extern) (sym a) ∙ sym p ∙ q); ends = λ f. ends_extern (input tokens text end) i f (ap (is_word text word_extern) (sym a) ∙ sym p ∙ q); small = omega arith; few = b.1 }
+  pub turned_extern : r ≡ true → TurnedTo s e n i (Some (1, n))
+  unfolding TurnedTo
+  turned_extern q = (
+    record { flags = λ f. flags_extern s e n i f (is_extern q); ends = λ f. ends_extern s i f (is_extern q); small = omega arith; few = b.1 },
+    met_there s i (is_word s.text word_extern) (word_kinded s.text word_extern) (is_extern q),
+  )
 
-  pub turn_nodebug : (z : Bool) → (e ≤ 1) × (n ≤ 2) → t ≡ token_at tokens end i → r ≡ is_word text word_extern t → r ≡ false → z ≡ is_word text word_nodebug t → z ≡ true → Turned (input tokens text end) e n i true e 2
-  turn_nodebug z b a p q u v = record { flags = λ f. flags_nodebug (input tokens text end) e n i f (ap (is_word text word_extern) (sym a) ∙ sym p ∙ q) (ap (is_word text word_nodebug) (sym a) ∙ sym u ∙ v); ends = λ f. ends_nodebug (input tokens text end) i f (ap (is_word text word_extern) (sym a) ∙ sym p ∙ q) (ap (is_word text word_nodebug) (sym a) ∙ sym u ∙ v); small = b.0; few = omega arith }
+  pub turned_nodebug : (z : Bool) → r ≡ false → z ≡ is_word s.text word_nodebug t → z ≡ true → TurnedTo s e n i (Some (e, 2))
+  unfolding TurnedTo
+  turned_nodebug z q u v = (
+    record { flags = λ f. flags_nodebug s e n i f (is_extern q) (is_nodebug u v); ends = λ f. ends_nodebug s i f (is_extern q) (is_nodebug u v); small = b.0; few = omega arith },
+    met_there s i (is_word s.text word_nodebug) (word_kinded s.text word_nodebug) (is_nodebug u v),
+  )
 
-  pub turn_none : (z : Bool) → (e ≤ 1) × (n ≤ 2) → t ≡ token_at tokens end i → r ≡ is_word text word_extern t → r ≡ false → z ≡ is_word text word_nodebug t → z ≡ false → Turned (input tokens text end) e n i false e n
-  turn_none z b a p q u v = record { flags = λ f. flags-none (input tokens text end) e n i f (ap (is_word text word_extern) (sym a) ∙ sym p ∙ q) (ap (is_word text word_nodebug) (sym a) ∙ sym u ∙ v); ends = λ f. ends-none (input tokens text end) i f (ap (is_word text word_extern) (sym a) ∙ sym p ∙ q) (ap (is_word text word_nodebug) (sym a) ∙ sym u ∙ v); small = b.0; few = b.1 }
+  pub turned_none : (z : Bool) → r ≡ false → z ≡ is_word s.text word_nodebug t → z ≡ false → TurnedTo s e n i None
+  unfolding TurnedTo
+  turned_none z q u v = record { flags = λ f. flags-none s e n i f (is_extern q) (is_nodebug u v); ends = λ f. ends-none s i f (is_extern q) (is_nodebug u v); small = b.0; few = b.1 }
 
 -- ---- the loop
 
@@ -135,79 +132,34 @@ pub record Passing (s : Input) (from i e n : ℕ) : Type 0 where
 pub passing_start : (s : Input) (from : ℕ) → Passing s from from 0 0
 passing_start s from = record { fuel = size s; total = refl; flags = refl; ends = refl; small = omega arith; few = omega arith }
 
-passing_by : (s : Input) (from i e n : ℕ) (more : Bool) (e' n' f : ℕ) → f + i ≡ size s + from → modifier_flags s (size s) 0 0 from ≡ modifier_flags s f e n i → modifiers_end s (size s) from ≡ modifiers_end s f i → i < size s → Turned s e n i more e' n' → more ≡ true → Passing s from (i + 1) e' n'
-passing_by s from i e n more e' n' zero a b c h t v = absurd (omega arith)
-passing_by s from i e n more e' n' (suc f) a b c h t v =
-    record { fuel = f; total = omega arith; flags = b ∙ t.flags f ∙ rw v; ends = c ∙ t.ends f ∙ rw v; small = t.small; few = t.few }
+passing_by : (s : Input) (from i e n e' n' f : ℕ) → f + i ≡ size s + from → modifier_flags s (size s) 0 0 from ≡ modifier_flags s f e n i → modifiers_end s (size s) from ≡ modifiers_end s f i → i < size s → Turned s e n i true e' n' → Passing s from (i + 1) e' n'
+passing_by s from i e n e' n' zero a b c h t = absurd (omega arith)
+passing_by s from i e n e' n' (suc f) a b c h t =
+    record { fuel = f; total = omega arith; flags = b ∙ t.flags f; ends = c ∙ t.ends f; small = t.small; few = t.few }
 
-pub passing_on : (s : Input) (from i e n : ℕ) (more : Bool) (e' n' : ℕ) → Passing s from i e n → i < size s → Turned s e n i more e' n' → more ≡ true → (j : ℕ) → j ≡ i + 1 → Passing s from j e' n'
-passing_on s from i e n more e' n' w h t v j f = rw f (passing_by s from i e n more e' n' w.fuel w.total w.flags w.ends h t v)
+pub passing_on : (s : Input) (from i e n : ℕ) (m : ℕ × ℕ) → Passing s from i e n → TurnedTo s e n i (Some m) → (j : ℕ) → j ≡ i + 1 → Passing s from j m.0 m.1
+unfolding TurnedTo
+passing_on s from i e n m w t j f = rw f (passing_by s from i e n m.0 m.1 w.fuel w.total w.flags w.ends t.1 t.0)
 
-stop_by : (s : Input) (from i e n : ℕ) (more : Bool) (e' n' f : ℕ) → from < 8589934592 → size s ≤ 16385 → f + i ≡ size s + from → modifier_flags s (size s) 0 0 from ≡ modifier_flags s f e n i → modifiers_end s (size s) from ≡ modifiers_end s f i → i < size s → Turned s e n i more e' n' → more ≡ false → ModifiedFrom s from (e + n) i
-stop_by s from i e n more e' n' zero x y a b c h t v = absurd (omega arith)
-stop_by s from i e n more e' n' (suc f) x y a b c h t v =
-    record { flags = sym (b ∙ t.flags f ∙ rw v); ends = sym (c ∙ t.ends f ∙ rw v); near = omega arith }
+pub turned_there : (s : Input) (e n i : ℕ) (m : ℕ × ℕ) → TurnedTo s e n i (Some m) → i < size s
+unfolding TurnedTo
+turned_there s e n i m t = t.1
 
-pub passing_stop : (s : Input) (from i e n : ℕ) (more : Bool) (e' n' : ℕ) → (from < 8589934592) × (size s ≤ 16385) → Passing s from i e n → i < size s → Turned s e n i more e' n' → more ≡ false → ModifiedFrom s from (e + n) i
-passing_stop s from i e n more e' n' z w h t v = stop_by s from i e n more e' n' w.fuel z.0 z.1 w.total w.flags w.ends h t v
+stop_by : (s : Input) (from i e n f : ℕ) → from < 8589934592 → size s ≤ 16385 → f + i ≡ size s + from → modifier_flags s (size s) 0 0 from ≡ modifier_flags s f e n i → modifiers_end s (size s) from ≡ modifiers_end s f i → Turned s e n i false e n → ModifiedFrom s from (e + n) i
+stop_by s from i e n zero x y a b c t = record { flags = sym (b ∙ flags-zero s e n i); ends = sym (c ∙ ends-zero s i); near = omega arith }
+stop_by s from i e n (suc f) x y a b c t = record { flags = sym (b ∙ t.flags f); ends = sym (c ∙ t.ends f); near = omega arith }
 
-pub passing_end : (s : Input) (from i e n : ℕ) → Passing s from i e n → size s ≤ i → from < 8589934592 → size s ≤ 16385 → ModifiedFrom s from (e + n) i
-passing_end s from i e n w h x y =
-    record { flags = sym (w.flags ∙ past_flags s w.fuel e n i h); ends = sym (w.ends ∙ past_ends s w.fuel i h); near = omega (arith, w.total) }
-
--- ---- at a state
-
-pub modified_refused : (s : Input) (p : Parsed) → OneOf (1 ∷ []) (tag_of the_type p) → ModifiedAt s p 0 0
-unfolding Flags
-modified_refused s (Accepted i n k) o = absurd (omega arith)
-modified_refused s (Refused e) o = record { flags = tt; ends = tt; near = omega arith }
-
-pub modified_at : (s : Input) (p : Parsed) (i n k j x next : ℕ) → p ≡ Accepted i n k → j ≡ i + 1 → ModifiedFrom s j x next → ModifiedAt s p x next
-unfolding Flags
-modified_at s p i n k j x next e f m' = let m = rw f at m' in rw e (record { flags = m.flags; ends = m.ends; near = m.near })
-
-pub from_near : (c : ℕ) (s : Input) (p : Parsed) (i n k j : ℕ) → Ready c s p → p ≡ Accepted i n k → j ≡ i + 1 → j < 8589934592
-from_near c s p i n k j h e f = let a = ready_at c s p i n k h e in omega (arith, a.few, a.here)
-
-pub few-tokens : (c : ℕ) (tokens text : List ℕ) (end : ℕ) (p : Parsed) (i n k : ℕ) → Ready c (input tokens text end) p → p ≡ Accepted i n k → token_count tokens ≤ 16385
-few-tokens c tokens text end p i n k h e = (ready_at c (input tokens text end) p i n k h e).few
+pub passing_stop : (s : Input) (from i e n : ℕ) → from < 8589934592 → size s ≤ 16385 → Passing s from i e n → TurnedTo s e n i None → ModifiedFrom s from (e + n) i
+unfolding TurnedTo
+passing_stop s from i e n x y w t = stop_by s from i e n w.fuel x y w.total w.flags w.ends t
 
 -- ---- passed over
 
-pub passed-refused : (tokens : List ℕ) (end next : ℕ) (p : Parsed) → OneOf (1 ∷ []) (tag_of the_type p) → p ≡ passed tokens end next p
-unfolding passed
-passed-refused tokens end next (Accepted i n k) o = absurd (omega arith)
-passed-refused tokens end next (Refused e) o = refl
+module _ (s : Input) (name : State) (next : ℕ) (e : next ≡ modifiers_end s (size s) name.next) (t : Token) (r : Bool) (a : t ≡ peek s next) (b : r ≡ is_symbol t) where
+  pub passed_wrong : (u : Token) (j : ℕ) → r ≡ true → u ≡ peek s (next + 1) → j ≡ next + 1 → Moved (parse_modifiers s) name (Err (record { why = TypeModifier; place = u.pos; taken = j }))
+  unfolding parse_modifiers Met
+  passed_wrong u j c d f = record { same = λ l. record { met = rw (← e, ← a, ← b, c, f) (ap (λ (x : Token). refusal 18 x.pos (next + 1)) d) } }
 
-module _ (tokens : List ℕ) (end next : ℕ) (p : Parsed) (i n k : ℕ) (t : Token) (r : Bool) where
-  pub passed-wrong : (u : Token) (j : ℕ) → p ≡ Accepted i n k → t ≡ token_at tokens end next → r ≡ is_symbol t → r ≡ true → u ≡ token_at tokens end (next + 1) → j ≡ next + 1 → Refused (refusal 18 u.pos j) ≡ passed tokens end next p
-  unfolding passed
-  passed-wrong u j e a b c d f = rw (f, e, ← a, ← b, c, d)
-
-  pub passed_on : p ≡ Accepted i n k → t ≡ token_at tokens end next → r ≡ is_symbol t → r ≡ false → Accepted next n k ≡ passed tokens end next p
-  unfolding passed
-  passed_on e a b c = rw (e, ← a, ← b, c)
-
-over_met : (tokens text : List ℕ) (end j m c next : ℕ) (l : List ℕ) (b : Bool) → next ≡ modifiers_end (input tokens text end) (token_count tokens) j → is_symbol (token_at tokens end next) ≡ b → Met (parse_modifiers (input tokens text end) j) m c l l (passed tokens end next (Accepted j m c))
-unfolding parse_modifiers passed Met
-over_met tokens text end j m c next l true e f = rw (← e, f) refl
-over_met tokens text end j m c next l false e f = rw (← e, f) (begun next m c l)
-
-passed_gone : (tokens : List ℕ) (end next : ℕ) (d : Refusal) → passed tokens end next (Refused d) ≡ Refused d
-unfolding passed
-passed_gone tokens end next d = refl
-
-after-name : (tokens text : List ℕ) (end i n next : ℕ) (l l₁ : List ℕ) (name : Parsed) → next ≡ modifiers_end (input tokens text end) (token_count tokens) (i + 1) → Met (parse_ident (input tokens text end) i) n 0 l l₁ name → Chained (parse_modifiers (input tokens text end)) name l₁ l₁ (passed tokens end next name)
-unfolding Chained
-after-name tokens text end i n next l l₁ (Accepted j m c) e h =
-    let x : j ≡ i + 1 = ident-next (input tokens text end) i n 0 l l₁ j m c h in
-    over_met tokens text end j m c next l₁ (is_symbol (token_at tokens end next)) (e ∙ ap (modifiers_end (input tokens text end) (token_count tokens)) (sym x)) refl
-after-name tokens text end i n next l l₁ (Refused d) e h = passed_gone tokens end next d
-
-by_start : (tokens text : List ℕ) (end next : ℕ) (p name : Parsed) (l l₁ : List ℕ) → Chained (parse_ident (input tokens text end)) (inside p) l l₁ name → Flags (λ i. modifiers_end (input tokens text end) (token_count tokens) (i + 1)) p next → Chained (parse_modifiers (input tokens text end)) name l₁ l₁ (passed tokens end next name)
-unfolding Flags inside Chained
-by_start tokens text end next (Accepted i n k) name l l₁ m f = after-name tokens text end i (n + 1) next l l₁ name f m
-by_start tokens text end next (Refused e) name l l₁ m f = rw m (passed_gone tokens end next e)
-
-pub modifiers_read : (tokens text : List ℕ) (end next : ℕ) (p q₀ name after : Parsed) (l l₁ : List ℕ) → q₀ ≡ inside p → Chained (parse_ident (input tokens text end)) q₀ l l₁ name → Flags (λ i. modifiers_end (input tokens text end) (token_count tokens) (i + 1)) p next → after ≡ passed tokens end next name → Chained (parse_modifiers (input tokens text end)) name l₁ l₁ after
-modifiers_read tokens text end next p q₀ name after l l₁ e m f a = rw a (by_start tokens text end next p name l l₁ (rw e at m) f)
+  pub passed_on : r ≡ false → Moved (parse_modifiers s) name (Ok (state next name.count name.items))
+  unfolding parse_modifiers
+  passed_on c = record { same = λ l. record { met = rw (← e, ← a, ← b, c) (begun next name.count name.items l) } }

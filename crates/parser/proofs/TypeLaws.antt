@@ -1,23 +1,23 @@
 -- How far types read, and rows whose items know their place. Assumes nothing.
 use Prim.Native.Nat.{ℕ, ◌+◌, ◌≤◌}
 use native.Mathlib.Omega.{arith}
-use mathlib.Core.Path.{◌≡◌, refl}
-use mathlib.Core.List.{List, [], ◌∷◌}
-use types.Run.{OneOf}
-use denote.Enum.Declared.{tag_of}
+use mathlib.Core.Path.{◌≡◌, refl, ap, subst}
+use mathlib.Core.List.{List}
+use mathlib.Core.Bool.{Bool}
 use Rattle.trees.specs.Tree.{head}
 use Rattle.trees.specs.Ast.{kind_type_def, kind_type_value_primitive, kind_type_value_enum, kind_type_value_struct, kind_variant, kind_fields_unit, kind_fields_struct, kind_fields_tuple, kind_struct_field, kind_tuple_field}
 use Rattle.tokens.specs.declared.Token.{Token}
 use Rattle.tokens.specs.Token.{token_at, is_lparen, is_rparen, is_symbol, is_word}
 use Rattle.tokens.specs.Input.{Input, input, peek, pos_at, size}
-use Rattle.steps.specs.declared.Parsed.{Parsed}
-use Rattle.steps.specs.declared.Parsed.TheVariants.{Accepted, Refused}
-use Rattle.steps.specs.contracts.Parsed.{the_type}
 use Rattle.steps.specs.Keywords.{word_primitive, word_enum, word_struct}
 use Rattle.steps.specs.Outcome.{Reader, ◌⊳◌, parent, bare, nothing, refuse_after, if_next, if_second, many_at, row, expect-lparen, expect-rparen, expect-word, parse_ident}
-use Rattle.steps.specs.Met.{Met, Chained, ChainedAt, Closed, inside, token_for, Ready, Small}
-use Rattle.steps.proofs.MetLaws.{closed_met}
-use Rattle.steps.proofs.SizeLaws.{Bounded, BoundedAt, Steady, Item, steady, item, sized-node, sized_less, then_bounded, parent-bounded, flagged-bounded, bare-bounded, next-bounded, second-bounded, nothing-bounded, after-bounded, lparen-bounded, rparen-bounded, word-bounded, ident-bounded}
+use Rattle.std.specs.Prelude.{Result, Ok, Err}
+use Rattle.steps.specs.declared.State.{State}
+use Rattle.steps.specs.declared.Stop.{Stop}
+use Rattle.steps.specs.Sizes.{Sized, BoundedAt, Bounded}
+use Rattle.steps.specs.Met.{Chained, Closed, inside}
+use Rattle.steps.proofs.MetLaws.{node_over, node_none}
+use Rattle.steps.proofs.SizeLaws.{Steady, Item, steady, item, sized-node, sized_less, then_bounded, parent-bounded, flagged-bounded, bare-bounded, next-bounded, second-bounded, nothing-bounded, after-bounded, lparen-bounded, rparen-bounded, word-bounded, ident-bounded}
 use Rattle.steps.proofs.RowLaws.{row_steady, row-bounded}
 use Rattle.parser.specs.Types.{parse_struct_field, parse_struct_fields, parse_tuple_field, parse_tuple_fields, parse_fields, parse_type_variant, parse_typevalue, modifier_flags, parse_modifiers, parse_type}
 use Rattle.parser.proofs.ModifierLaws.{modifiers_steady}
@@ -95,7 +95,7 @@ module _ (s : Input) where
       (then_bounded (1 + 1) (3 + 3) (0 + 0) u c d s (expect-lparen s ⊳ expect-word s w) f
       (then_bounded 1 3 0 1 3 0 s (expect-lparen s) (expect-word s w) (lparen-bounded s) (word-bounded s w)) b) (rparen-bounded s))
 
-  typevalue_bounded : Bounded 1 1 0 s (parse_typevalue s)
+  pub typevalue_bounded : Bounded 1 1 0 s (parse_typevalue s)
   unfolding parse_typevalue
   typevalue_bounded =
       second-bounded 1 1 0 s (is_word s.text word_primitive) primitive enums (worded 1 2 0 kind_type_value_primitive word_primitive (parse_ident s) (omega arith) (ident-bounded s))
@@ -125,38 +125,17 @@ module _ (s : Input) where
 
 -- ---- promises
 
-pub stays_at : (f : ℕ → Reader) (p : Parsed) (l : List ℕ) → OneOf (1 ∷ []) (tag_of the_type p) → ChainedAt f p l l p
-unfolding ChainedAt
-stays_at f (Accepted i n k) l h = absurd (omega arith)
-stays_at f (Refused e) l h = refl
+module _ (s : Input) (p q₀ : State) {l l₁ : List ℕ} (e : q₀ ≡ inside p) where
+  -- a row whose items know their place, from its first item on
+  pub tuple_row : (stop : ℕ → Bool) (f : ℕ → Reader) {r : Result State Stop} → Chained (many_at (size s) stop f q₀.items) q₀ l l₁ r → Chained (many_at (size s) stop f 0) q₀ l l₁ r
+  tuple_row stop f {r = r} m = subst (λ (k : ℕ). Chained (many_at (size s) stop f k) q₀ l l₁ r) (ap (λ (x : State). x.items) e) m
 
-small-begun : (p : Parsed) → Small (inside p)
-unfolding inside Small
-small-begun (Accepted i n k) = omega arith
-small-begun (Refused e) = tt
+  pub tuple_field_read : {x : ℕ} {q r : State} {l₂ : List ℕ} → x ≡ pos_at s p.next → Chained (parse_ident s) q₀ l l₁ (Ok q) → Closed (head kind_tuple_field 0 x p.items 0) p q l₁ l₂ r → Chained (parse_tuple_field s p.items) p l l₂ (Ok r)
+  unfolding parse_tuple_field
+  tuple_field_read {x = x} {q = q} {r = r} {l₂ = l₂} a m c =
+      let z : Closed (head kind_tuple_field 0 (pos_at s p.next) p.items 0) p q l₁ l₂ r = subst (λ (y : ℕ). Closed (head kind_tuple_field 0 y p.items 0) p q l₁ l₂ r) a c in
+      record { met = node_over (parse_ident s) (head kind_tuple_field 0 (pos_at s p.next) p.items 0) p q₀ l l₁ l₂ q r z e m }
 
-pub small-inside : (p q : Parsed) → q ≡ inside p → Small q
-small-inside p q e = rw e (small-begun p)
-
--- a row whose items know their place, from its first item on
-row-begun : (f : ℕ → Reader) (p r : Parsed) (l l' : List ℕ) → ChainedAt f (inside p) l l' r → Chained (f 0) (inside p) l l' r
-unfolding inside ChainedAt Chained
-row-begun f (Accepted i n k) r l l' h = h
-row-begun f (Refused e) r l l' h = h
-
-pub tuple_row_read : (f : ℕ → Reader) (p q r : Parsed) (l l' : List ℕ) → q ≡ inside p → ChainedAt f q l l' r → Chained (f 0) q l l' r
-tuple_row_read f p q r l l' e h = rw e (row-begun f p r l l' (rw e at h))
-
-field_met : (tokens text : List ℕ) (end i n k : ℕ) (q r : Parsed) (l l₁ l₂ : List ℕ) → Met (parse_ident (input tokens text end) i) (n + 1) 0 l l₁ q → Closed (head kind_tuple_field 0 (token_at tokens end i).pos k 0) (Accepted i n k) q l₁ l₂ r → Met (parse_tuple_field (input tokens text end) k i) n k l l₂ r
-unfolding parse_tuple_field
-field_met tokens text end i n k q r l l₁ l₂ m c = closed_met (parse_ident (input tokens text end) i) (head kind_tuple_field 0 (token_at tokens end i).pos k 0) i n k l l₁ l₂ q r c m
-
-field_here : (tokens text : List ℕ) (end i n k : ℕ) (t : Token) (q r : Parsed) (l l₁ l₂ : List ℕ) → t ≡ token_for tokens end (Accepted i n k) → Chained (parse_ident (input tokens text end)) (inside (Accepted i n k)) l l₁ q → Closed (head kind_tuple_field 0 t.pos k 0) (Accepted i n k) q l₁ l₂ r → ChainedAt (parse_tuple_field (input tokens text end)) (Accepted i n k) l l₂ r
-unfolding token_for Chained inside ChainedAt
-field_here tokens text end i n k t q r l l₁ l₂ a m c = field_met tokens text end i n k q r l l₁ l₂ m (rw a at c)
-
-pub tuple_field_read : (tokens text : List ℕ) (end i n k : ℕ) (t : Token) (p q₀ q r : Parsed) (l l₁ l₂ : List ℕ) → p ≡ Accepted i n k → t ≡ token_for tokens end (Accepted i n k) → q₀ ≡ inside (Accepted i n k) → Chained (parse_ident (input tokens text end)) q₀ l l₁ q → Closed (head kind_tuple_field 0 t.pos k 0) (Accepted i n k) q l₁ l₂ r → ChainedAt (parse_tuple_field (input tokens text end)) p l l₂ r
-tuple_field_read tokens text end i n k t p q₀ q r l l₁ l₂ e a b m c = rw e (field_here tokens text end i n k t q r l l₁ l₂ a (rw b at m) c)
-
-pub ready-here : (c : ℕ) (s : Input) (p : Parsed) (i n k : ℕ) → Ready c s p → p ≡ Accepted i n k → Ready c s (Accepted i n k)
-ready-here c s p i n k h e = rw e at h
+  pub tuple_field_stopped : {d : Stop} → Chained (parse_ident s) q₀ l l₁ (Err d) → Chained (parse_tuple_field s p.items) p l l₁ (Err d)
+  unfolding parse_tuple_field
+  tuple_field_stopped {d = d} m = record { met = node_none (parse_ident s) (head kind_tuple_field 0 (pos_at s p.next) p.items 0) p q₀ l l₁ d e m }

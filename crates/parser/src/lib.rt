@@ -6,116 +6,102 @@ pub mod decls;
 pub mod rules;
 pub mod types;
 
-ghost use Rattle.std.specs.Prelude.{◌≡◌, List, ℕ, ◌+◌, ◌/◌, ◌≤◌, ◌<◌, leb};
-ghost use Rattle.tokens.specs.Input.{Input, input, size};
-ghost use Rattle.steps.specs.Met.{Ready, Chained, second_for, goes_on};
-ghost use Rattle.tokens.specs.Token.{token_count};
-ghost use Rattle.steps.specs.Keywords.{word_pragma, word_type, word_decl, word_attr, word-rule, word-extractor, word_extern, word_convert};
+ghost use Rattle.std.specs.Prelude.{◌≡◌, ℕ, ◌+◌, ◌≤◌, ◌<◌, leb, IfOk};
+ghost use Rattle.trees.specs.Choice.{pick};
+ghost use Rattle.records.specs.Grounds.{number};
+ghost use Rattle.tokens.specs.Input.{size, peek};
+ghost use Rattle.steps.specs.Met.{seen, Ready, Within, Chained, Moved};
 ghost use Rattle.parser.specs.Types.{parse_type};
-ghost use Rattle.parser.specs.Defs.{parse_pragma, parse_decl, parse_attr, parse_rule, parse_etor, parse_extern, parse_converter, worded, is_uncovered, other_def, rest_def, parse_def, parse_defs};
-ghost use Rattle.parser.specs.Unread.{Unread};
+ghost use Rattle.parser.specs.Defs.{parse_pragma, parse_decl, parse_attr, parse_rule, parse_etor, parse_extern, parse_converter, is_uncovered, other_def, rest_def, parse_def, parse_defs};
 
 use attrs::parse_attr;
 use decls::{parse_converter, parse_decl, parse_etor, parse_extern, parse_pragma};
+use records::Ground;
 use rules::parse_rule;
-use steps::{Parsed, expect_lparen, expect_rparen, expect_word_of, refuse_after, second_token};
+use steps::parts::{Item, Part, parse_row, parse_worded};
+use steps::{Source, State, Stop, expect_lparen, refuse_after, second_token};
 use tokens::{Token, TokenKind};
 use types::parse_type;
 
-// The definitions, each by its second token u, the word that it starts with.
-fn def_pragma(tokens: &[u8], text: &[u8], end: u32, out: &mut [u8], p: Parsed, u: Token) -> Parsed
-    requires ready { Ready 3 (input tokens.now text.now end) p }
-    requires u_value { u ≡ second_for tokens.now end p }
-    ensures { Chained (worded (input tokens.now text.now end) word_pragma (parse_pragma (input tokens.now text.now end))) p out.old out.new result }
-{
-    let open = expect_lparen(tokens, end, p);
-    let word = expect_word_of(tokens, text, end, open, b"pragma", u);
-    let q = parse_pragma(tokens, text, end, out, word);
-    expect_rparen(tokens, end, q)
+// The definitions, each by what stands after its word.
+struct Pragma;
+
+impl Part for Pragma {
+    ghost reader = { parse_pragma };
+
+    fn parse(s: &Source, _out: &mut [u8], p: State) -> Result<State, Stop> {
+        parse_pragma(s, p)
+    }
 }
 
-fn def_type(tokens: &[u8], text: &[u8], end: u32, out: &mut [u8], p: Parsed, u: Token) -> Parsed
-    requires ready { Ready 3 (input tokens.now text.now end) p }
-    requires u_value { u ≡ second_for tokens.now end p }
-    ensures { Chained (worded (input tokens.now text.now end) word_type (parse_type (input tokens.now text.now end))) p out.old out.new result }
-{
-    let open = expect_lparen(tokens, end, p);
-    let word = expect_word_of(tokens, text, end, open, b"type", u);
-    let q = parse_type(tokens, text, end, out, word);
-    expect_rparen(tokens, end, q)
+struct TypeDef;
+
+impl Part for TypeDef {
+    ghost reader = { parse_type };
+
+    fn parse(s: &Source, out: &mut [u8], p: State) -> Result<State, Stop> {
+        parse_type(s, out, p)
+    }
 }
 
-fn def_decl(tokens: &[u8], text: &[u8], end: u32, out: &mut [u8], p: Parsed, u: Token) -> Parsed
-    requires ready { Ready 3 (input tokens.now text.now end) p }
-    requires u_value { u ≡ second_for tokens.now end p }
-    ensures { Chained (worded (input tokens.now text.now end) word_decl (parse_decl (input tokens.now text.now end))) p out.old out.new result }
-{
-    let open = expect_lparen(tokens, end, p);
-    let word = expect_word_of(tokens, text, end, open, b"decl", u);
-    let q = parse_decl(tokens, text, end, out, word);
-    expect_rparen(tokens, end, q)
+struct Decl;
+
+impl Part for Decl {
+    ghost reader = { parse_decl };
+
+    fn parse(s: &Source, out: &mut [u8], p: State) -> Result<State, Stop> {
+        parse_decl(s, out, p)
+    }
 }
 
-fn def_attr(tokens: &[u8], text: &[u8], end: u32, out: &mut [u8], p: Parsed, u: Token) -> Parsed
-    requires ready { Ready 3 (input tokens.now text.now end) p }
-    requires u_value { u ≡ second_for tokens.now end p }
-    ensures { Chained (worded (input tokens.now text.now end) word_attr (parse_attr (input tokens.now text.now end))) p out.old out.new result }
-{
-    let open = expect_lparen(tokens, end, p);
-    let word = expect_word_of(tokens, text, end, open, b"attr", u);
-    let q = parse_attr(tokens, text, end, out, word);
-    expect_rparen(tokens, end, q)
+struct Attr;
+
+impl Part for Attr {
+    ghost reader = { parse_attr };
+
+    fn parse(s: &Source, out: &mut [u8], p: State) -> Result<State, Stop> {
+        parse_attr(s, out, p)
+    }
 }
 
-fn def_rule(tokens: &[u8], text: &[u8], end: u32, out: &mut [u8], p: Parsed, u: Token) -> Parsed
-    requires ready { Ready 3 (input tokens.now text.now end) p }
-    requires u_value { u ≡ second_for tokens.now end p }
-    ensures { Chained (worded (input tokens.now text.now end) word-rule (parse_rule (input tokens.now text.now end))) p out.old out.new result }
-{
-    let open = expect_lparen(tokens, end, p);
-    let word = expect_word_of(tokens, text, end, open, b"rule", u);
-    let q = parse_rule(tokens, text, end, out, word);
-    expect_rparen(tokens, end, q)
+struct Rule;
+
+impl Part for Rule {
+    ghost reader = { parse_rule };
+
+    fn parse(s: &Source, out: &mut [u8], p: State) -> Result<State, Stop> {
+        parse_rule(s, out, p)
+    }
 }
 
-fn def_extractor(
-    tokens: &[u8],
-    text: &[u8],
-    end: u32,
-    out: &mut [u8],
-    p: Parsed,
-    u: Token,
-) -> Parsed
-    requires ready { Ready 3 (input tokens.now text.now end) p }
-    requires u_value { u ≡ second_for tokens.now end p }
-    ensures { Chained (worded (input tokens.now text.now end) word-extractor (parse_etor (input tokens.now text.now end))) p out.old out.new result }
-{
-    let open = expect_lparen(tokens, end, p);
-    let word = expect_word_of(tokens, text, end, open, b"extractor", u);
-    let q = parse_etor(tokens, text, end, out, word);
-    expect_rparen(tokens, end, q)
+struct Extractor;
+
+impl Part for Extractor {
+    ghost reader = { parse_etor };
+
+    fn parse(s: &Source, out: &mut [u8], p: State) -> Result<State, Stop> {
+        parse_etor(s, out, p)
+    }
 }
 
-fn def_extern(tokens: &[u8], text: &[u8], end: u32, out: &mut [u8], p: Parsed, u: Token) -> Parsed
-    requires ready { Ready 3 (input tokens.now text.now end) p }
-    requires u_value { u ≡ second_for tokens.now end p }
-    ensures { Chained (worded (input tokens.now text.now end) word_extern (parse_extern (input tokens.now text.now end))) p out.old out.new result }
-{
-    let open = expect_lparen(tokens, end, p);
-    let word = expect_word_of(tokens, text, end, open, b"extern", u);
-    let q = parse_extern(tokens, text, end, out, word);
-    expect_rparen(tokens, end, q)
+struct Extern;
+
+impl Part for Extern {
+    ghost reader = { parse_extern };
+
+    fn parse(s: &Source, out: &mut [u8], p: State) -> Result<State, Stop> {
+        parse_extern(s, out, p)
+    }
 }
 
-fn def_convert(tokens: &[u8], text: &[u8], end: u32, out: &mut [u8], p: Parsed, u: Token) -> Parsed
-    requires ready { Ready 3 (input tokens.now text.now end) p }
-    requires u_value { u ≡ second_for tokens.now end p }
-    ensures { Chained (worded (input tokens.now text.now end) word_convert (parse_converter (input tokens.now text.now end))) p out.old out.new result }
-{
-    let open = expect_lparen(tokens, end, p);
-    let word = expect_word_of(tokens, text, end, open, b"convert", u);
-    let q = parse_converter(tokens, text, end, out, word);
-    expect_rparen(tokens, end, q)
+struct Converter;
+
+impl Part for Converter {
+    ghost reader = { parse_converter };
+
+    fn parse(s: &Source, out: &mut [u8], p: State) -> Result<State, Stop> {
+        parse_converter(s, out, p)
+    }
 }
 
 // Whether a token is a word that is not covered.
@@ -140,90 +126,93 @@ fn is_uncovered(t: Token, text: &[u8]) -> bool
     t.is_word(text, b"instantiate")
 }
 
-// A definition whose word is none of the covered ones.
-fn other_def(tokens: &[u8], text: &[u8], end: u32, p: Parsed, u: Token) -> Parsed
-    requires ready { Ready 3 (input tokens.now text.now end) p }
-    requires u_value { u ≡ second_for tokens.now end p }
-    ensures { Unread (other_def (input tokens.now text.now end)) p result }
+// Why a definition with that word is refused, which is none of the covered ones.
+fn unread_ground(u: Token, text: &[u8]) -> Ground
+    ensures { number result ≡ pick (is_uncovered text.now u) 27 12 }
 {
-    let open = expect_lparen(tokens, end, p);
     if is_uncovered(u, text) {
-        return refuse_after(tokens, text, end, open, TokenKind::Symbol as u8, 27);
+        return Ground::UncoveredWord;
     }
-    refuse_after(tokens, text, end, open, TokenKind::Symbol as u8, 12)
+    Ground::UnknownDefinition
+}
+
+// A definition whose word is none of the covered ones.
+fn other_def(s: &Source, p: State, u: Token) -> Result<State, Stop>
+    requires ready { Ready 4 (seen s.now) p }
+    requires second { u ≡ peek (seen s.now) (p.next + 1) }
+    ensures reads { Moved (other_def (seen s.now)) p result }
+    ensures within { IfOk result (Within 1 0 0 (seen s.now) p) }
+{
+    let why = unread_ground(u, s.text);
+    let open = expect_lparen(s, p)?;
+    refuse_after(s, open, TokenKind::Symbol, why)
 }
 
 // A definition by the word after its `(`: the less frequent words.
-fn parse_def_rest(
-    tokens: &[u8],
-    text: &[u8],
-    end: u32,
-    out: &mut [u8],
-    p: Parsed,
-    u: Token,
-) -> Parsed
-    requires ready { Ready 3 (input tokens.now text.now end) p }
-    requires u_value { u ≡ second_for tokens.now end p }
-    ensures { Chained (rest_def (input tokens.now text.now end)) p out.old out.new result }
+fn parse_def_rest(s: &Source, out: &mut [u8], p: State, u: Token) -> Result<State, Stop>
+    requires ready { Ready 4 (seen s.now) p }
+    requires second { u ≡ peek (seen s.now) (p.next + 1) }
+    ensures reads { Chained (rest_def (seen s.now)) p out.old out.new result }
+    ensures within { IfOk result (Within 1 0 0 (seen s.now) p) }
 {
-    if u.is_word(text, b"rule") {
-        return def_rule(tokens, text, end, out, p, u);
+    if u.is_word(s.text, b"rule") {
+        return parse_worded::<Rule>(s, out, p, b"rule", u);
     }
-    if u.is_word(text, b"extractor") {
-        return def_extractor(tokens, text, end, out, p, u);
+    if u.is_word(s.text, b"extractor") {
+        return parse_worded::<Extractor>(s, out, p, b"extractor", u);
     }
-    if u.is_word(text, b"extern") {
-        return def_extern(tokens, text, end, out, p, u);
+    if u.is_word(s.text, b"extern") {
+        return parse_worded::<Extern>(s, out, p, b"extern", u);
     }
-    if u.is_word(text, b"convert") {
-        return def_convert(tokens, text, end, out, p, u);
+    if u.is_word(s.text, b"convert") {
+        return parse_worded::<Converter>(s, out, p, b"convert", u);
     }
-    other_def(tokens, text, end, p, u)
+    other_def(s, p, u)
 }
 
-fn parse_def(tokens: &[u8], text: &[u8], end: u32, out: &mut [u8], p: Parsed) -> Parsed
-    requires { Ready 3 (input tokens.now text.now end) p }
-    ensures { Chained (parse_def (input tokens.now text.now end)) p out.old out.new result }
+fn parse_def(s: &Source, out: &mut [u8], p: State) -> Result<State, Stop>
+    requires { Ready 4 (seen s.now) p }
+    ensures reads { Chained (parse_def (seen s.now)) p out.old out.new result }
+    ensures within { IfOk result (Within 1 0 0 (seen s.now) p) }
 {
-    let u = second_token(tokens, end, p);
-    if u.is_word(text, b"pragma") {
-        return def_pragma(tokens, text, end, out, p, u);
+    let u = second_token(s, p);
+    if u.is_word(s.text, b"pragma") {
+        return parse_worded::<Pragma>(s, out, p, b"pragma", u);
     }
-    if u.is_word(text, b"type") {
-        return def_type(tokens, text, end, out, p, u);
+    if u.is_word(s.text, b"type") {
+        return parse_worded::<TypeDef>(s, out, p, b"type", u);
     }
-    if u.is_word(text, b"decl") {
-        return def_decl(tokens, text, end, out, p, u);
+    if u.is_word(s.text, b"decl") {
+        return parse_worded::<Decl>(s, out, p, b"decl", u);
     }
-    if u.is_word(text, b"attr") {
-        return def_attr(tokens, text, end, out, p, u);
+    if u.is_word(s.text, b"attr") {
+        return parse_worded::<Attr>(s, out, p, b"attr", u);
     }
-    parse_def_rest(tokens, text, end, out, p, u)
+    parse_def_rest(s, out, p, u)
 }
 
-// Whether one more definition stands at p.
-fn more_defs(tokens: &[u8], p: Parsed) -> bool
-    ensures { result ≡ goes_on (λ i. leb (token_count tokens.now) i) p }
-{
-    let Parsed::Accepted {
-        next,
-        count: _,
-        items: _,
-    } = p
-    else {
-        return false;
-    };
-    next < tokens.len() / Token::WIDTH
+// A definition, in the row that ends with the tokens.
+struct Def;
+
+impl Item for Def {
+    ghost reader = { λ s _. parse_def s };
+
+    ghost stop = { λ s i. leb (size s) i };
+
+    fn parse(s: &Source, out: &mut [u8], p: State) -> Result<State, Stop> {
+        parse_def(s, out, p)
+    }
+
+    fn ends(s: &Source, p: State) -> bool {
+        s.tokens.len() / Token::WIDTH <= p.next
+    }
 }
 
 // All definitions, to the last token.
-pub fn parse_defs(tokens: &[u8], text: &[u8], end: u32, out: &mut [u8], p: Parsed) -> Parsed
-    requires { Ready 3 (input tokens.now text.now end) p }
-    ensures { Chained (parse_defs (input tokens.now text.now end)) p out.old out.new result }
+pub fn parse_defs(s: &Source, out: &mut [u8], p: State) -> Result<State, Stop>
+    requires { Ready 4 (seen s.now) p }
+    ensures reads { Chained (parse_defs (seen s.now)) p out.old out.new result }
+    ensures within { IfOk result (Within 0 0 0 (seen s.now) p) }
 {
-    let mut q = p;
-    while more_defs(tokens, q) {
-        q = parse_def(tokens, text, end, out, q);
-    }
-    q
+    parse_row::<Def>(s, out, p)
 }

@@ -1,37 +1,32 @@
 // Rules: parse_rule.
-ghost use Rattle.std.specs.Prelude.{◌≡◌, true, ℕ, ◌+◌, ◌-◌, ◌/◌, ◌≤◌, ◌<◌};
-ghost use Rattle.tokens.specs.Input.{Input, input, size, pos_at};
-ghost use Rattle.steps.specs.Outcome.{◌⊳◌, many};
-ghost use Rattle.steps.specs.Met.{Ready, Near, Chained, Flags};
-ghost use Rattle.exprs.specs.Expr.{parse_iflet_or_expr, no_iflet};
-ghost use Rattle.patterns.specs.Pattern.{parse_pattern};
-ghost use Rattle.parser.specs.RuleSteps.{refused_at};
+ghost use Rattle.std.specs.Prelude.{◌≡◌, ℕ, ◌+◌, ◌≤◌, ◌<◌, IfOk};
+ghost use Rattle.steps.specs.Outcome.{◌⊳◌};
+ghost use Rattle.steps.specs.Met.{seen, Ready, Within, Chained};
 ghost use Rattle.parser.specs.Defs.{rule_name, is_i64, rule_priority, rule_flags, rule_parts, parse_rule};
 
 use exprs::iflets::{parse_iflet_or_expr, parse_iflets};
 use patterns::parse_pattern;
 use reader::after;
-use steps::{
-    Parsed, Refusal, close_at, inside, next_token, parse_name_or, put_leaf, refuse_after,
-    second_token,
-};
+use records::Ground;
+use steps::names::parse_name_or;
+use steps::nodes::{close_at, put_leaf};
+use steps::{Source, State, Stop, inside, next_pos, next_token, refuse_after, second_token};
 use tokens::TokenKind;
 use trees::{Head, Kind};
 
 // The first symbol after `rule` is its name, and a refusal of the token behind it is one of the name.
-fn rule_name(tokens: &[u8], text: &[u8], end: u32, out: &mut [u8], p: Parsed) -> Parsed
-    requires { Ready 4 (input tokens.now text.now end) p }
-    ensures { Chained (rule_name (input tokens.now text.now end)) p out.old out.new result }
+fn rule_name(s: &Source, out: &mut [u8], p: State) -> Result<State, Stop>
+    requires { Ready 4 (seen s.now) p }
+    ensures reads { Chained (rule_name (seen s.now)) p out.old out.new result }
+    ensures within { IfOk result (Within 0 0 0 (seen s.now) p) }
 {
-    let t = next_token(tokens, end, p);
-    if t.is_symbol() {
-        let u = second_token(tokens, end, p);
-        if u.is_refused() {
-            return refuse_after(tokens, text, end, p, TokenKind::Symbol as u8, 23);
+    if next_token(s, p).is_symbol() {
+        if second_token(s, p).is_refused() {
+            return refuse_after(s, p, TokenKind::Symbol, Ground::RuleName);
         }
-        return parse_name_or(tokens, text, end, out, p, 23);
+        return parse_name_or(s, out, p, Ground::RuleName);
     }
-    p
+    Ok(p)
 }
 
 fn is_i64(upper: u64, lower: u64) -> bool
@@ -44,100 +39,73 @@ fn is_i64(upper: u64, lower: u64) -> bool
 }
 
 // The next integer is the rule's priority; a refusal stands at `place`.
-fn rule_priority(
-    tokens: &[u8],
-    text: &[u8],
-    end: u32,
-    out: &mut [u8],
-    p: Parsed,
-    place: u32,
-) -> Parsed
-    requires { Ready 4 (input tokens.now text.now end) p }
-    ensures { Chained (rule_priority (input tokens.now text.now end) place) p out.old out.new result }
+fn rule_priority(s: &Source, out: &mut [u8], p: State, place: u32) -> Result<State, Stop>
+    requires { Ready 4 (seen s.now) p }
+    ensures reads { Chained (rule_priority (seen s.now) place) p out.old out.new result }
+    ensures within { IfOk result (Within 0 0 0 (seen s.now) p) }
 {
-    let t = next_token(tokens, end, p);
-    if t.is_int() {
-        if is_i64(t.word1, t.word2) {
-            let h = Head {
-                kind: Kind::Priority as u8,
-                flags: 0,
-                pos: 0,
-                word1: t.word2,
-                word2: 0,
-            };
-            return put_leaf(tokens, out, p, h);
-        }
-        return refuse_place(tokens, p, 24, place);
+    let t = next_token(s, p);
+    if !t.is_int() {
+        return Ok(p);
     }
-    p
-}
-
-// A refusal at a place, the next token consumed.
-fn refuse_place(tokens: &[u8], p: Parsed, code: u8, place: u32) -> Parsed
-    requires { Near p }
-    ensures { result ≡ refused_at code place p }
-{
-    let Parsed::Accepted {
-        next,
-        count: _,
-        items: _,
-    } = p
-    else {
-        return p;
+    if !is_i64(t.word1, t.word2) {
+        return Err(Stop {
+            why: Ground::Priority,
+            place,
+            taken: after(s.tokens, p.next),
+        });
+    }
+    let h = Head {
+        kind: Kind::Priority as u8,
+        flags: 0,
+        pos: 0,
+        word1: t.word2,
+        word2: 0,
     };
-    Parsed::Refused(Refusal {
-        code,
-        place,
-        taken: after(tokens, next),
-    })
+    Ok(put_leaf(s, out, p, h))
 }
 
 // 1 named, 2 has priority.
-fn rule_flags(tokens: &[u8], text: &[u8], end: u32, p: Parsed) -> u8
-    requires { Near p }
-    ensures { Flags (rule_flags (input tokens.now text.now end)) p result }
+fn rule_flags(s: &Source, p: State) -> u8
+    requires { p.next < 4294967296 }
+    ensures { result ≡ rule_flags (seen s.now) p.next }
 {
-    let t = next_token(tokens, end, p);
+    let t = next_token(s, p);
     if t.is_symbol() {
-        let u = second_token(tokens, end, p);
-        if u.is_int() {
-            return 3;
-        }
-        return 1;
+        return 1 + 2 * (second_token(s, p).is_int() as u8);
     }
-    if t.is_int() {
-        return 2;
-    }
-    0
+    2 * (t.is_int() as u8)
 }
 
 // The name, the priority and the pattern.
-fn rule_head(tokens: &[u8], text: &[u8], end: u32, out: &mut [u8], p: Parsed, place: u32) -> Parsed
-    requires { Ready 4 (input tokens.now text.now end) p }
-    ensures { Chained (rule_name (input tokens.now text.now end) ⊳ rule_priority (input tokens.now text.now end) place) p out.old out.new result }
+fn rule_head(s: &Source, out: &mut [u8], p: State, place: u32) -> Result<State, Stop>
+    requires { Ready 4 (seen s.now) p }
+    ensures reads { Chained (rule_name (seen s.now) ⊳ rule_priority (seen s.now) place) p out.old out.new result }
+    ensures within { IfOk result (Within 0 0 0 (seen s.now) p) }
 {
-    let name = rule_name(tokens, text, end, out, p);
-    rule_priority(tokens, text, end, out, name, place)
-}
-
-// After `rule`: name, priority, pattern, if-lets, expression.
-pub fn parse_rule(tokens: &[u8], text: &[u8], end: u32, out: &mut [u8], p: Parsed) -> Parsed
-    requires { Ready 2 (input tokens.now text.now end) p }
-    ensures { Chained (parse_rule (input tokens.now text.now end)) p out.old out.new result }
-{
-    let flags = rule_flags(tokens, text, end, p);
-    let place = next_token(tokens, end, p).pos;
-    let q = rule_parts(tokens, text, end, out, inside(p), place);
-    close_at(tokens, end, out, p, Kind::Rule as u8, flags, q)
+    let name = rule_name(s, out, p)?;
+    rule_priority(s, out, name, place)
 }
 
 // What a rule is made of; 24 stands at `place`.
-fn rule_parts(tokens: &[u8], text: &[u8], end: u32, out: &mut [u8], p: Parsed, place: u32) -> Parsed
-    requires { Ready 3 (input tokens.now text.now end) p }
-    ensures { Chained (rule_parts (input tokens.now text.now end) place) p out.old out.new result }
+fn rule_parts(s: &Source, out: &mut [u8], p: State, place: u32) -> Result<State, Stop>
+    requires { Ready 4 (seen s.now) p }
+    ensures reads { Chained (rule_parts (seen s.now) place) p out.old out.new result }
+    ensures within { IfOk result (Within 1 1 0 (seen s.now) p) }
 {
-    let head = rule_head(tokens, text, end, out, p, place);
-    let pattern = parse_pattern(tokens, text, end, out, head, 64);
-    let iflets = parse_iflets(tokens, text, end, out, pattern);
-    parse_iflet_or_expr(tokens, text, end, out, iflets)
+    let head = rule_head(s, out, p, place)?;
+    let pattern = parse_pattern(s, out, head, 64)?;
+    let iflets = parse_iflets(s, out, pattern)?;
+    parse_iflet_or_expr(s, out, iflets)
+}
+
+// After `rule`: name, priority, pattern, if-lets, expression.
+pub fn parse_rule(s: &Source, out: &mut [u8], p: State) -> Result<State, Stop>
+    requires { Ready 2 (seen s.now) p }
+    ensures reads { Chained (parse_rule (seen s.now)) p out.old out.new result }
+    ensures within { IfOk result (Within 1 0 0 (seen s.now) p) }
+{
+    let flags = rule_flags(s, p);
+    let q = rule_parts(s, out, inside(p), next_pos(s, p))?;
+    Ok(close_at(s, out, p, Kind::Rule, flags, q))
 }

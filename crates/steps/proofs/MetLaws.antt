@@ -111,12 +111,12 @@ exit {f = f} {p = p} {d = d} {r = r} {l = l} {l₁ = l₁} h m = let e = err_fro
 
 -- a node over its children, begun where they begin
 module _ (f : Reader) (h : Head) (p q₀ : State) (l l₁ : List ℕ) where
-  node_over : (l₂ : List ℕ) (q r : State) → Closed h p q l₁ l₂ r → q₀ ≡ inside p → Chained f q₀ l l₁ (Ok q) → Met (node_of h (f p.next)) p.count p.items l l₂ (Ok r)
+  pub node_over : (l₂ : List ℕ) (q r : State) → Closed h p q l₁ l₂ r → q₀ ≡ inside p → Chained f q₀ l l₁ (Ok q) → Met (node_of h (f p.next)) p.count p.items l l₂ (Ok r)
   node_over l₂ q r c e m =
       let b : Chained f (inside p) l l₁ (Ok q) = subst (λ (x : State). Chained f x l l₁ (Ok q)) e m in
       rw c.one (closed_met (f p.next) h p.count p.items l l₁ l₂ q b.met c.wrote)
 
-  node_none : (d : Stop) → q₀ ≡ inside p → Chained f q₀ l l₁ (Err d) → Met (node_of h (f p.next)) p.count p.items l l₁ (Err d)
+  pub node_none : (d : Stop) → q₀ ≡ inside p → Chained f q₀ l l₁ (Err d) → Met (node_of h (f p.next)) p.count p.items l l₁ (Err d)
   node_none d e m =
       let b : Chained f (inside p) l l₁ (Err d) = subst (λ (x : State). Chained f x l l₁ (Err d)) e m in
       node_stop (f p.next) h p.count p.items l l₁ d b.met

@@ -15,7 +15,8 @@ use Rattle.std.specs.Result.{IfOk, IsErr, IsErrAnd}
 use Rattle.std.proofs.lemmas.Result.{err_from_is_err_and}
 use Rattle.trees.specs.Choice.{pick, choose}
 use Rattle.trees.specs.Names.{spelled, Nonempty, without_first}
-use Rattle.trees.specs.Tree.{node, ∅, head, record_of, records_all}
+use Rattle.trees.specs.Tree.{node, ∅, ◌▸◌, head, record_of, records_all}
+use Rattle.trees.specs.Ast.{ident_node}
 use Rattle.trees.proofs.Laws.{spelled_nonempty, rest_nonempty, count_none, count-one, size-one, size-node, size_none}
 use Rattle.records.specs.Slots.{put, writes}
 use Rattle.records.proofs.Laws.{writes-node, writes-none}
@@ -29,7 +30,7 @@ use Rattle.tokens.specs.Ident.{ident_refusal}
 use Rattle.tokens.proofs.TokenLaws.{const_kind}
 use Rattle.steps.specs.declared.State.{State}
 use Rattle.steps.specs.declared.Stop.{Stop}
-use Rattle.steps.specs.Outcome.{Reader, refuse, refusal, unexpected, refused_as, pragma_refusal, ident_at, const_refusal, name_by, parse_ident, parse_const}
+use Rattle.steps.specs.Outcome.{Reader, accept, refuse, refusal, unexpected, refused_as, pragma_refusal, ident_at, const_refusal, name_by, parse_ident, parse_const}
 use Rattle.steps.specs.Met.{told, state, Met, Chained, SymbolAt, Named}
 
 -- ---- identifiers
@@ -195,3 +196,13 @@ module _ (s : Input) (p : State) (t : Token) (b : Bool) (a : t ≡ peek s p.next
   pub symbol_err : (d : Stop) → b ≡ false → told d ≡ unexpected t p.next → SymbolAt s p (Err d)
   unfolding SymbolAt
   symbol_err d h u = rw (← a) (u, sym e ∙ h)
+
+-- a name read is one token
+pub ident_next : (s : Input) {p q : State} {l l' : List ℕ} → Chained (parse_ident s) p l l' (Ok q) → q.next ≡ p.next + 1
+unfolding parse_ident name_by ident_at Met
+ident_next s {p = p} {q = q} {l = l} {l' = l'} m = go (is_symbol (peek s p.next)) (eqb (ident_refusal (spelled s.text (peek s p.next).word1)) 0) m.met
+  where
+    go : (a b : Bool) → Met (choose a (λ _. pick b (accept (ident_node (peek s p.next).pos (peek s p.next).word1 ▸ ∅) (p.next + 1)) (refuse (refusal (ident_refusal (spelled s.text (peek s p.next).word1)) (peek s p.next).pos (p.next + 1)))) (λ _. refuse (unexpected (peek s p.next) p.next))) p.count p.items l l' (Ok q) → q.next ≡ p.next + 1
+    go true true h = h.ends
+    go true false h = absurd h
+    go false b h = absurd h

@@ -211,7 +211,9 @@ pub fn refuse_after(s: &Source, p: State, kind: TokenKind, why: Ground) -> Resul
 // eat_sym_str of the Rust, at an index: the index after the word w, where it stands there.
 pub fn ate(s: &Source, at: usize, w: &[u8]) -> usize
     requires { at < 4294967296 }
-    ensures { result ≡ ate (seen s.now) w.now at }
+    ensures index { result ≡ ate (seen s.now) w.now at }
+    ensures low { at ≤ result }
+    ensures high { result ≤ at + 1 }
 {
     let t = peek(s.tokens, s.end, at);
     ate_of(s, at, w, t)
@@ -221,7 +223,9 @@ pub fn ate(s: &Source, at: usize, w: &[u8]) -> usize
 pub fn ate_of(s: &Source, at: usize, w: &[u8], t: Token) -> usize
     requires near { at < 4294967296 }
     requires there { t ≡ peek (seen s.now) at }
-    ensures { result ≡ ate (seen s.now) w.now at }
+    ensures index { result ≡ ate (seen s.now) w.now at }
+    ensures low { at ≤ result }
+    ensures high { result ≤ at + 1 }
 {
     if t.is_word(s.text, w) {
         return after(s.tokens, at);

@@ -1,15 +1,17 @@
-use Rattle.steps.proofs.SizeLaws.{near-ready, ready-token, lparen_kinded}
-use Rattle.parser.proofs.DefLaws.{other_uncovered, other_unknown}
+use Rattle.std.proofs.Common.{arith, sym, refl, ap, ◌∙◌, ◌+◌, []}
+use Rattle.tokens.specs.Token.{is_rparen}
+use Rattle.tokens.specs.Input.{peek, size}
+use Rattle.steps.specs.Met.{seen}
+use Rattle.steps.proofs.MetLaws.{◌▷◌, stop, moved, exit, node_read, node_stopped, flagged_read, flagged_stopped, bare_read, bare_stopped, nothing_read, next_yes, next_no, second_yes, second_no, leaf_read, bounded_within, within_less}
+use Rattle.steps.proofs.RowLaws.{plain_row}
+use Rattle.parser.proofs.DefLaws.{other_read, other-bounded}
 use Rattle.parser.proofs.other_def.Goals as goal
 
-pub refuse_after-requires : goal.refuse_after-requires
-refuse_after-requires c = near-ready 3 _ _ (ready-token _ _ _ _ _ _ _ c.expect_lparen-open.ensures lparen_kinded c.requires.ready)
+pub returns-in_err-open-clause-reads : goal.returns-in_err-open-clause-reads
+returns-in_err-open-clause-reads c = record { same = λ l. exit c.from_residual.ensures (other_read (seen c.args.s.now) _ _ c.requires.second c.unread_ground-why.ensures (stop _ (moved c.in_err-open.ensures.reads))) }
 
-pub returns-then-is_uncovered : goal.returns-then-is_uncovered
-returns-then-is_uncovered c = other_uncovered _ _ _ _ _ _ _ _ c.requires.u_value c.is_uncovered.ensures c.if-is_uncovered.true c.expect_lparen-open.ensures c.refuse_after.ensures
+pub returns-clause-reads : goal.returns-clause-reads
+returns-clause-reads c = record { same = λ l. other_read (seen c.args.s.now) _ _ c.requires.second c.unread_ground-why.ensures (moved c.in_ok-open.ensures.reads ▷ moved c.refuse_after.ensures) }
 
-pub refuse_after-requires-2 : goal.refuse_after-requires-2
-refuse_after-requires-2 c = near-ready 3 _ _ (ready-token _ _ _ _ _ _ _ c.expect_lparen-open.ensures lparen_kinded c.requires.ready)
-
-pub returns : goal.returns
-returns c = other_unknown _ _ _ _ _ _ _ _ c.requires.u_value c.is_uncovered.ensures c.if-is_uncovered.false c.expect_lparen-open.ensures c.refuse_after-2.ensures
+pub returns-clause-within : goal.returns-clause-within
+returns-clause-within c = within_less 1 1 0 1 0 0 _ _ _ (omega arith) (omega arith) (bounded_within (other-bounded (seen c.args.s.now)) (moved {l = []} (returns-clause-reads c)))

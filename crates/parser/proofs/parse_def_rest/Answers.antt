@@ -1,23 +1,28 @@
-use Rattle.steps.proofs.MetLaws.{second_yes, second_no}
+use Rattle.std.proofs.Common.{arith, sym, refl, ap, ◌∙◌, ◌+◌, []}
+use Rattle.tokens.specs.Token.{is_rparen}
+use Rattle.tokens.specs.Input.{peek, size}
+use Rattle.steps.specs.Met.{seen}
+use Rattle.steps.proofs.MetLaws.{◌▷◌, stop, moved, exit, node_read, node_stopped, flagged_read, flagged_stopped, bare_read, bare_stopped, nothing_read, next_yes, next_no, second_yes, second_no, leaf_read, bounded_within, within_less}
+use Rattle.steps.proofs.RowLaws.{plain_row}
 use Rattle.parser.specs.Defs.{rest_def}
 use Rattle.parser.proofs.parse_def_rest.Goals as goal
 
-pub returns-then-is_word : goal.returns-then-is_word
+pub returns-then-is_word-clause-reads : goal.returns-then-is_word-clause-reads
 unfolding rest_def
-returns-then-is_word c = second_yes _ _ _ _ _ _ _ _ _ _ _ _ c.requires.u_value c.is_word.ensures c.if-is_word.true c.def_rule.ensures
+returns-then-is_word-clause-reads c = second_yes _ _ _ c.requires.second c.is_word.ensures c.if-is_word.true (c.parse_worded.ensures.reads)
 
-pub returns-then-is_word-2 : goal.returns-then-is_word-2
+pub returns-then-is_word-2-clause-reads : goal.returns-then-is_word-2-clause-reads
 unfolding rest_def
-returns-then-is_word-2 c = second_no _ _ _ _ _ _ _ _ _ _ _ _ c.requires.u_value c.is_word.ensures c.if-is_word.false (second_yes _ _ _ _ _ _ _ _ _ _ _ _ c.requires.u_value c.is_word-2.ensures c.if-is_word-2.true c.def_extractor.ensures)
+returns-then-is_word-2-clause-reads c = second_no _ _ _ c.requires.second c.is_word.ensures c.if-is_word.false (second_yes _ _ _ c.requires.second c.is_word-2.ensures c.if-is_word-2.true (c.parse_worded-then-is_word-2.ensures.reads))
 
-pub returns-then-is_word-3 : goal.returns-then-is_word-3
+pub returns-then-is_word-3-clause-reads : goal.returns-then-is_word-3-clause-reads
 unfolding rest_def
-returns-then-is_word-3 c = second_no _ _ _ _ _ _ _ _ _ _ _ _ c.requires.u_value c.is_word.ensures c.if-is_word.false (second_no _ _ _ _ _ _ _ _ _ _ _ _ c.requires.u_value c.is_word-2.ensures c.if-is_word-2.false (second_yes _ _ _ _ _ _ _ _ _ _ _ _ c.requires.u_value c.is_word-3.ensures c.if-is_word-3.true c.def_extern.ensures))
+returns-then-is_word-3-clause-reads c = second_no _ _ _ c.requires.second c.is_word.ensures c.if-is_word.false (second_no _ _ _ c.requires.second c.is_word-2.ensures c.if-is_word-2.false (second_yes _ _ _ c.requires.second c.is_word-3.ensures c.if-is_word-3.true (c.parse_worded-then-is_word-3.ensures.reads)))
 
-pub returns-then-is_word-4 : goal.returns-then-is_word-4
+pub returns-then-is_word-4-clause-reads : goal.returns-then-is_word-4-clause-reads
 unfolding rest_def
-returns-then-is_word-4 c = second_no _ _ _ _ _ _ _ _ _ _ _ _ c.requires.u_value c.is_word.ensures c.if-is_word.false (second_no _ _ _ _ _ _ _ _ _ _ _ _ c.requires.u_value c.is_word-2.ensures c.if-is_word-2.false (second_no _ _ _ _ _ _ _ _ _ _ _ _ c.requires.u_value c.is_word-3.ensures c.if-is_word-3.false (second_yes _ _ _ _ _ _ _ _ _ _ _ _ c.requires.u_value c.is_word-4.ensures c.if-is_word-4.true c.def_convert.ensures)))
+returns-then-is_word-4-clause-reads c = second_no _ _ _ c.requires.second c.is_word.ensures c.if-is_word.false (second_no _ _ _ c.requires.second c.is_word-2.ensures c.if-is_word-2.false (second_no _ _ _ c.requires.second c.is_word-3.ensures c.if-is_word-3.false (second_yes _ _ _ c.requires.second c.is_word-4.ensures c.if-is_word-4.true (c.parse_worded-then-is_word-4.ensures.reads))))
 
-pub returns : goal.returns
+pub returns-clause-reads : goal.returns-clause-reads
 unfolding rest_def
-returns c = second_no _ _ _ _ _ _ _ _ _ _ _ _ c.requires.u_value c.is_word.ensures c.if-is_word.false (second_no _ _ _ _ _ _ _ _ _ _ _ _ c.requires.u_value c.is_word-2.ensures c.if-is_word-2.false (second_no _ _ _ _ _ _ _ _ _ _ _ _ c.requires.u_value c.is_word-3.ensures c.if-is_word-3.false (second_no _ _ _ _ _ _ _ _ _ _ _ _ c.requires.u_value c.is_word-4.ensures c.if-is_word-4.false (c.other_def.ensures.kept _))))
+returns-clause-reads c = second_no _ _ _ c.requires.second c.is_word.ensures c.if-is_word.false (second_no _ _ _ c.requires.second c.is_word-2.ensures c.if-is_word-2.false (second_no _ _ _ c.requires.second c.is_word-3.ensures c.if-is_word-3.false (second_no _ _ _ c.requires.second c.is_word-4.ensures c.if-is_word-4.false (moved c.other_def.ensures.reads))))

@@ -1,19 +1,12 @@
-use borrow.Author.Rules.{rules}
-use Rattle.steps.proofs.SizeLaws.{ready-after}
-use Rattle.steps.proofs.RowLaws.{going_start, row-going, row_falls, row_met}
+use Rattle.std.proofs.Common.{arith, sym, refl, ap, ◌∙◌, ◌+◌, []}
+use Rattle.tokens.specs.Token.{is_rparen}
+use Rattle.tokens.specs.Input.{peek, size}
+use Rattle.steps.specs.Met.{seen}
+use Rattle.steps.proofs.MetLaws.{◌▷◌, stop, moved, exit, node_read, node_stopped, flagged_read, flagged_stopped, bare_read, bare_stopped, nothing_read, next_yes, next_no, second_yes, second_no, leaf_read, bounded_within, within_less}
+use Rattle.steps.proofs.RowLaws.{plain_row}
 use Rattle.parser.specs.Defs.{parse_defs}
-use Rattle.parser.proofs.DefLaws.{def_item, def_steady}
 use Rattle.parser.proofs.parse_defs.Goals as goal
 
-pub loop-out-init : goal.loop-out-init
-loop-out-init c = (search going_start, search rules, search rules)
-
-pub loop-out-smaller : goal.loop-out-smaller
-loop-out-smaller c = row_falls _ _ _ _ _ _ _ _ _ c.parse_def-q.ensures c.more_defs.ensures c.loop-out-test.true (def_item _) c.loop-out.invariant.1
-
-pub loop-out-preserved : goal.loop-out-preserved
-loop-out-preserved c = (row-going _ _ _ _ _ _ _ _ _ _ _ c.parse_def-q.ensures c.loop-out.invariant.0 c.more_defs.ensures c.loop-out-test.true (def_item _) c.loop-out.invariant.1, search (ready-after, def_steady), search rules)
-
-pub returns : goal.returns
+pub returns-clause-reads : goal.returns-clause-reads
 unfolding parse_defs
-returns c = row_met _ _ _ _ _ _ _ _ c.loop-out.invariant.0 c.more_defs.ensures c.loop-out-test.false
+returns-clause-reads c = plain_row (seen c.args.s.now) _ _ c.parse_row.ensures.reads

@@ -1,9 +1,19 @@
-use Rattle.steps.proofs.MetLaws.{chain, token}
-use Rattle.steps.proofs.SizeLaws.{ready-token, word_kinded, lparen_kinded}
+use Rattle.std.proofs.Common.{arith, sym, refl, ap, ◌∙◌, ◌+◌, []}
+use Rattle.tokens.specs.Token.{is_rparen}
+use Rattle.tokens.specs.Input.{peek, size}
+use Rattle.steps.specs.Met.{seen}
+use Rattle.steps.proofs.MetLaws.{◌▷◌, stop, moved, exit, node_read, node_stopped, flagged_read, flagged_stopped, bare_read, bare_stopped, nothing_read, next_yes, next_no, second_yes, second_no, leaf_read, bounded_within, within_less}
+use Rattle.steps.proofs.RowLaws.{plain_row}
 use Rattle.parser.proofs.attrs.attr_veri.Goals as goal
 
-pub parse_attr_kind_veri-q-requires : goal.parse_attr_kind_veri-q-requires
-parse_attr_kind_veri-q-requires c = ready-token _ _ _ _ _ _ _ c.expect_word-word.ensures (word_kinded _ _) (ready-token _ _ _ _ _ _ _ c.expect_lparen-open.ensures lparen_kinded c.requires)
+pub returns-in_err-open-clause-reads : goal.returns-in_err-open-clause-reads
+returns-in_err-open-clause-reads c = exit c.from_residual.ensures (stop _ (stop _ (stop _ ((moved c.in_err-open.ensures.reads)))))
 
-pub returns : goal.returns
-returns c = chain _ _ _ _ _ _ _ _ (token _ _ _ _ _ _ c.expect_rparen.ensures) (chain _ _ _ _ _ _ _ _ c.parse_attr_kind_veri-q.ensures (chain _ _ _ _ _ _ _ _ (token _ _ _ _ _ _ c.expect_word-word.ensures) (token _ _ _ _ _ _ c.expect_lparen-open.ensures)))
+pub returns-in_err-word-clause-reads : goal.returns-in_err-word-clause-reads
+returns-in_err-word-clause-reads c = exit c.from_residual-in_err-word.ensures (stop _ (stop _ ((moved c.in_ok-open.ensures.reads) ▷ (moved c.in_err-word.ensures.reads))))
+
+pub returns-in_err-q-clause-reads : goal.returns-in_err-q-clause-reads
+returns-in_err-q-clause-reads c = exit c.from_residual-in_err-q.ensures (stop _ ((moved c.in_ok-open.ensures.reads) ▷ (moved c.in_ok-word.ensures.reads) ▷ c.in_err-q.ensures.reads))
+
+pub returns-clause-reads : goal.returns-clause-reads
+returns-clause-reads c = (moved c.in_ok-open.ensures.reads) ▷ (moved c.in_ok-word.ensures.reads) ▷ c.in_ok-q.ensures.reads ▷ moved c.expect_rparen.ensures.reads

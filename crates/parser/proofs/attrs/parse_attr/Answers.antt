@@ -1,29 +1,20 @@
-use mathlib.Core.List.{[]}
-use native.Mathlib.Omega.{arith}
-use Rattle.steps.proofs.MetLaws.{chain, flagged-read, eating}
-use Rattle.steps.proofs.SizeLaws.{near-ready, small-after, ready-inside, ready-after, ready_less, eat_steady, ident-bounded}
+use Rattle.std.proofs.Common.{arith, sym, refl, ap, ◌∙◌, ◌+◌, []}
+use Rattle.tokens.specs.Token.{is_rparen}
+use Rattle.tokens.specs.Input.{peek, size}
+use Rattle.steps.specs.Met.{seen}
+use Rattle.steps.proofs.MetLaws.{◌▷◌, stop, moved, exit, node_read, node_stopped, flagged_read, flagged_stopped, bare_read, bare_stopped, nothing_read, next_yes, next_no, second_yes, second_no, leaf_read, bounded_within, within_less}
+use Rattle.steps.proofs.RowLaws.{plain_row}
 use Rattle.parser.specs.Defs.{parse_attr}
-use Rattle.parser.proofs.DefLaws.{attr_kinds_steady}
 use Rattle.parser.proofs.attrs.parse_attr.Goals as goal
 
-pub inside-requires : goal.inside-requires
-inside-requires c = search near-ready
-
-pub eat-word-requires : goal.eat-word-requires
-eat-word-requires c = near-ready 4 _ _ (ready-inside 3 4 (omega arith) (omega arith) _ _ _ c.inside.ensures c.requires)
-
-pub parse_ident-target-requires : goal.parse_ident-target-requires
-parse_ident-target-requires c = ready-after _ _ _ _ _ _ _ (eating _ _ _ _ [] c.eat-word.ensures) (eat_steady _ _) (ready-inside 3 4 (omega arith) (omega arith) _ _ _ c.inside.ensures c.requires)
-
-pub attr_kind_row-q-requires : goal.attr_kind_row-q-requires
-attr_kind_row-q-requires c = ready_less 4 3 2 (omega arith) (omega arith) _ _ _ _ _ _ c.parse_ident-target.ensures (ident-bounded _) (ready-after _ _ _ _ _ _ _ (eating _ _ _ _ [] c.eat-word.ensures) (eat_steady _ _) (ready-inside 3 4 (omega arith) (omega arith) _ _ _ c.inside.ensures c.requires))
-
-pub close_at-requires-clause-near : goal.close_at-requires-clause-near
-close_at-requires-clause-near c = search near-ready
-
-pub close_at-requires-clause-small : goal.close_at-requires-clause-small
-close_at-requires-clause-small c = small-after 3 _ _ _ _ _ _ _ _ c.attr_kind_row-q.ensures c.requires (attr_kinds_steady _) (ready_less 4 3 2 (omega arith) (omega arith) _ _ _ _ _ _ c.parse_ident-target.ensures (ident-bounded _) (ready-after _ _ _ _ _ _ _ (eating _ _ _ _ [] c.eat-word.ensures) (eat_steady _ _) (ready-inside 3 4 (omega arith) (omega arith) _ _ _ c.inside.ensures c.requires)))
-
-pub returns : goal.returns
+pub returns-in_err-target-clause-reads : goal.returns-in_err-target-clause-reads
 unfolding parse_attr
-returns c = flagged-read _ _ _ _ _ _ _ _ _ _ _ _ _ _ c.close_at.ensures c.eaten-flags.ensures c.inside.ensures (chain _ _ _ _ _ _ _ _ c.attr_kind_row-q.ensures (chain _ _ _ _ _ _ _ _ c.parse_ident-target.ensures (eating _ _ _ _ _ c.eat-word.ensures)))
+returns-in_err-target-clause-reads c = exit c.from_residual.ensures (flagged_stopped _ _ _ c.inside.ensures (stop _ ((moved c.eat-word.ensures.reads) ▷ c.in_err-target.ensures.reads)))
+
+pub returns-in_err-q-clause-reads : goal.returns-in_err-q-clause-reads
+unfolding parse_attr
+returns-in_err-q-clause-reads c = exit c.from_residual-in_err-q.ensures (flagged_stopped _ _ _ c.inside.ensures ((moved c.eat-word.ensures.reads) ▷ c.in_ok-target.ensures.reads ▷ c.in_err-q.ensures.reads))
+
+pub returns-clause-reads : goal.returns-clause-reads
+unfolding parse_attr
+returns-clause-reads c = flagged_read (seen c.args.s.now) _ c.close_at.ensures c.eaten-flags.ensures c.inside.ensures ((moved c.eat-word.ensures.reads) ▷ c.in_ok-target.ensures.reads ▷ c.in_ok-q.ensures.reads)

@@ -1,22 +1,28 @@
-use Rattle.steps.proofs.MetLaws.{second_yes, second_no, chain, token, refusing_after}
-use Rattle.steps.proofs.SizeLaws.{near-ready, ready-token, lparen_kinded}
+use Rattle.std.proofs.Common.{arith, sym, refl, ap, ◌∙◌, ◌+◌, []}
+use Rattle.tokens.specs.Token.{is_rparen}
+use Rattle.tokens.specs.Input.{peek, size}
+use Rattle.steps.specs.Met.{seen}
+use Rattle.steps.proofs.MetLaws.{◌▷◌, stop, moved, exit, node_read, node_stopped, flagged_read, flagged_stopped, bare_read, bare_stopped, nothing_read, next_yes, next_no, second_yes, second_no, leaf_read, bounded_within, within_less}
+use Rattle.steps.proofs.RowLaws.{plain_row}
 use Rattle.parser.specs.Defs.{parse_attr_kind}
+use Rattle.parser.proofs.DefLaws.{attr_kind_bounded}
 use Rattle.parser.proofs.attrs.parse_attr_kind.Goals as goal
 
-pub second_token-u-requires : goal.second_token-u-requires
-second_token-u-requires c = search near-ready
-
-pub returns-then-is_word : goal.returns-then-is_word
+pub returns-then-is_word-clause-reads : goal.returns-then-is_word-clause-reads
 unfolding parse_attr_kind
-returns-then-is_word c = second_yes _ _ _ _ _ _ _ _ _ _ _ _ c.second_token-u.ensures c.is_word.ensures c.if-is_word.true c.attr_veri.ensures
+returns-then-is_word-clause-reads c = second_yes _ _ _ c.second_token-u.ensures c.is_word.ensures c.if-is_word.true (c.attr_veri.ensures.reads)
 
-pub returns-then-is_word-2 : goal.returns-then-is_word-2
+pub returns-then-is_word-2-clause-reads : goal.returns-then-is_word-2-clause-reads
 unfolding parse_attr_kind
-returns-then-is_word-2 c = second_no _ _ _ _ _ _ _ _ _ _ _ _ c.second_token-u.ensures c.is_word.ensures c.if-is_word.false (second_yes _ _ _ _ _ _ _ _ _ _ _ _ c.second_token-u.ensures c.is_word-2.ensures c.if-is_word-2.true c.attr_tag.ensures)
+returns-then-is_word-2-clause-reads c = second_no _ _ _ c.second_token-u.ensures c.is_word.ensures c.if-is_word.false (second_yes _ _ _ c.second_token-u.ensures c.is_word-2.ensures c.if-is_word-2.true (c.attr_tag.ensures.reads))
 
-pub refuse_after-requires : goal.refuse_after-requires
-refuse_after-requires c = near-ready 3 _ _ (ready-token _ _ _ _ _ _ _ c.expect_lparen-open.ensures lparen_kinded c.requires)
-
-pub returns : goal.returns
+pub returns-clause-reads : goal.returns-clause-reads
 unfolding parse_attr_kind
-returns c = second_no _ _ _ _ _ _ _ _ _ _ _ _ c.second_token-u.ensures c.is_word.ensures c.if-is_word.false (second_no _ _ _ _ _ _ _ _ _ _ _ _ c.second_token-u.ensures c.is_word-2.ensures c.if-is_word-2.false (chain _ _ _ _ _ _ _ _ (refusing_after _ _ _ _ _ _ c.refuse_after.ensures) (token _ _ _ _ _ _ c.expect_lparen-open.ensures)))
+returns-clause-reads c = second_no _ _ _ c.second_token-u.ensures c.is_word.ensures c.if-is_word.false (second_no _ _ _ c.second_token-u.ensures c.is_word-2.ensures c.if-is_word-2.false (moved c.in_ok-open.ensures.reads ▷ moved c.refuse_after.ensures))
+
+pub returns-in_err-open-clause-reads : goal.returns-in_err-open-clause-reads
+unfolding parse_attr_kind
+returns-in_err-open-clause-reads c = exit c.from_residual.ensures (second_no _ _ _ c.second_token-u.ensures c.is_word.ensures c.if-is_word.false (second_no _ _ _ c.second_token-u.ensures c.is_word-2.ensures c.if-is_word-2.false (stop _ (moved c.in_err-open.ensures.reads))))
+
+pub returns-clause-within : goal.returns-clause-within
+returns-clause-within c = within_less 1 1 0 1 0 0 _ _ _ (omega arith) (omega arith) (bounded_within (attr_kind_bounded (seen c.args.s.now)) (returns-clause-reads c))

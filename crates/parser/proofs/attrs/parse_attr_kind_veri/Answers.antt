@@ -1,19 +1,24 @@
-use Rattle.steps.proofs.MetLaws.{next_yes, next_no, refusing_after}
-use Rattle.steps.proofs.SizeLaws.{near-ready}
+use Rattle.std.proofs.Common.{arith, sym, refl, ap, ◌∙◌, ◌+◌, []}
+use Rattle.tokens.specs.Token.{is_rparen}
+use Rattle.tokens.specs.Input.{peek, size}
+use Rattle.steps.specs.Met.{seen}
+use Rattle.steps.proofs.MetLaws.{◌▷◌, stop, moved, exit, node_read, node_stopped, flagged_read, flagged_stopped, bare_read, bare_stopped, nothing_read, next_yes, next_no, second_yes, second_no, leaf_read, bounded_within, within_less}
+use Rattle.steps.proofs.RowLaws.{plain_row}
 use Rattle.parser.specs.Defs.{parse_attr_kind_veri}
+use Rattle.parser.proofs.DefLaws.{veri_bounded}
 use Rattle.parser.proofs.attrs.parse_attr_kind_veri.Goals as goal
 
-pub returns-then-is_word : goal.returns-then-is_word
+pub returns-then-is_word-clause-reads : goal.returns-then-is_word-clause-reads
 unfolding parse_attr_kind_veri
-returns-then-is_word c = next_yes _ _ _ _ _ _ _ _ _ _ _ _ c.next_token-t.ensures c.is_word.ensures c.if-is_word.true c.word_kind.ensures
+returns-then-is_word-clause-reads c = next_yes _ _ _ c.next_token-t.ensures c.is_word.ensures c.if-is_word.true (c.word_kind.ensures.reads)
 
-pub returns-then-is_word-2 : goal.returns-then-is_word-2
+pub returns-then-is_word-2-clause-reads : goal.returns-then-is_word-2-clause-reads
 unfolding parse_attr_kind_veri
-returns-then-is_word-2 c = next_no _ _ _ _ _ _ _ _ _ _ _ _ c.next_token-t.ensures c.is_word.ensures c.if-is_word.false (next_yes _ _ _ _ _ _ _ _ _ _ _ _ c.next_token-t.ensures c.is_word-2.ensures c.if-is_word-2.true c.word_kind-then-is_word-2.ensures)
+returns-then-is_word-2-clause-reads c = next_no _ _ _ c.next_token-t.ensures c.is_word.ensures c.if-is_word.false (next_yes _ _ _ c.next_token-t.ensures c.is_word-2.ensures c.if-is_word-2.true (c.word_kind-then-is_word-2.ensures.reads))
 
-pub refuse_after-requires : goal.refuse_after-requires
-refuse_after-requires c = search near-ready
-
-pub returns : goal.returns
+pub returns-clause-reads : goal.returns-clause-reads
 unfolding parse_attr_kind_veri
-returns c = next_no _ _ _ _ _ _ _ _ _ _ _ _ c.next_token-t.ensures c.is_word.ensures c.if-is_word.false (next_no _ _ _ _ _ _ _ _ _ _ _ _ c.next_token-t.ensures c.is_word-2.ensures c.if-is_word-2.false (refusing_after _ _ _ _ _ _ c.refuse_after.ensures))
+returns-clause-reads c = next_no _ _ _ c.next_token-t.ensures c.is_word.ensures c.if-is_word.false (next_no _ _ _ c.next_token-t.ensures c.is_word-2.ensures c.if-is_word-2.false (moved c.refuse_after.ensures))
+
+pub returns-clause-within : goal.returns-clause-within
+returns-clause-within c = within_less 1 1 0 1 0 0 _ _ _ (omega arith) (omega arith) (bounded_within (veri_bounded (seen c.args.s.now)) (returns-clause-reads c))

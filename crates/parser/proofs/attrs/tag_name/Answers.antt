@@ -1,19 +1,13 @@
-use native.Mathlib.Omega.{arith}
-use Rattle.steps.proofs.MetLaws.{bare-read}
-use Rattle.steps.proofs.SizeLaws.{near-ready, small-after, ready-inside, ident_steady}
+use Rattle.std.proofs.Common.{arith, sym, refl, ap, ◌∙◌, ◌+◌, []}
+use Rattle.tokens.specs.Token.{is_rparen}
+use Rattle.tokens.specs.Input.{peek, size}
+use Rattle.steps.specs.Met.{seen}
+use Rattle.steps.proofs.MetLaws.{◌▷◌, stop, moved, exit, node_read, node_stopped, flagged_read, flagged_stopped, bare_read, bare_stopped, nothing_read, next_yes, next_no, second_yes, second_no, leaf_read, bounded_within, within_less}
+use Rattle.steps.proofs.RowLaws.{plain_row}
 use Rattle.parser.proofs.attrs.tag_name.Goals as goal
 
-pub inside-children-requires : goal.inside-children-requires
-inside-children-requires c = search near-ready
+pub returns-in_err-q-clause-reads : goal.returns-in_err-q-clause-reads
+returns-in_err-q-clause-reads c = exit c.from_residual.ensures (bare_stopped _ c.inside.ensures c.in_err-q.ensures.reads)
 
-pub parse_ident-q-requires : goal.parse_ident-q-requires
-parse_ident-q-requires c = search (ready-inside 3 4 (omega arith) (omega arith))
-
-pub close-requires-clause-near : goal.close-requires-clause-near
-close-requires-clause-near c = search near-ready
-
-pub close-requires-clause-small : goal.close-requires-clause-small
-close-requires-clause-small c = small-after 4 _ _ _ _ _ _ _ _ c.parse_ident-q.ensures c.requires (ident_steady _) (ready-inside 3 4 (omega arith) (omega arith) _ _ _ c.inside-children.ensures c.requires)
-
-pub returns : goal.returns
-returns c = bare-read _ _ _ _ _ _ _ _ _ c.close.ensures c.inside-children.ensures c.parse_ident-q.ensures
+pub returns-clause-reads : goal.returns-clause-reads
+returns-clause-reads c = bare_read (rw c.plain.ensures at c.close.ensures) c.inside.ensures c.in_ok-q.ensures.reads

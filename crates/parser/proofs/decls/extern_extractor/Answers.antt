@@ -1,29 +1,19 @@
-use mathlib.Core.List.{[]}
-use native.Mathlib.Omega.{arith}
-use Rattle.steps.proofs.MetLaws.{chain, token, flagged-read, eating}
-use Rattle.steps.proofs.SizeLaws.{near-ready, small-after, ready-inside, ready-after, ready-token, word_kinded, eat_steady, ident_steady}
+use Rattle.std.proofs.Common.{arith, sym, refl, ap, ◌∙◌, ◌+◌, []}
+use Rattle.tokens.specs.Token.{is_rparen}
+use Rattle.tokens.specs.Input.{peek, size}
+use Rattle.steps.specs.Met.{seen}
+use Rattle.steps.proofs.MetLaws.{◌▷◌, stop, moved, exit, node_read, node_stopped, flagged_read, flagged_stopped, bare_read, bare_stopped, nothing_read, next_yes, next_no, second_yes, second_no, leaf_read, bounded_within, within_less}
+use Rattle.steps.proofs.RowLaws.{plain_row}
 use Rattle.parser.proofs.decls.extern_extractor.Goals as goal
 
-pub eaten_second-flags-requires : goal.eaten_second-flags-requires
-eaten_second-flags-requires c = search near-ready
+pub returns-in_err-word-clause-reads : goal.returns-in_err-word-clause-reads
+returns-in_err-word-clause-reads c = exit c.from_residual.ensures (flagged_stopped _ _ _ c.inside.ensures (stop _ (stop _ (stop _ ((moved c.in_err-word.ensures.reads))))))
 
-pub inside-requires : goal.inside-requires
-inside-requires c = search near-ready
+pub returns-in_err-term-clause-reads : goal.returns-in_err-term-clause-reads
+returns-in_err-term-clause-reads c = exit c.from_residual-in_err-term.ensures (flagged_stopped _ _ _ c.inside.ensures (stop _ ((moved c.in_ok-word.ensures.reads) ▷ (moved c.eat-ate.ensures.reads) ▷ c.in_err-term.ensures.reads)))
 
-pub eat-ate-requires : goal.eat-ate-requires
-eat-ate-requires c = near-ready 4 _ _ (ready-token _ _ _ _ _ _ _ c.expect_word-word.ensures (word_kinded _ _) (ready-inside 3 4 (omega arith) (omega arith) _ _ _ c.inside.ensures c.requires))
+pub returns-in_err-q-clause-reads : goal.returns-in_err-q-clause-reads
+returns-in_err-q-clause-reads c = exit c.from_residual-in_err-q.ensures (flagged_stopped _ _ _ c.inside.ensures ((moved c.in_ok-word.ensures.reads) ▷ (moved c.eat-ate.ensures.reads) ▷ c.in_ok-term.ensures.reads ▷ c.in_err-q.ensures.reads))
 
-pub parse_ident-term-requires : goal.parse_ident-term-requires
-parse_ident-term-requires c = (ready-after _ _ _ _ _ _ _ (eating _ _ _ _ [] c.eat-ate.ensures) (eat_steady _ _) (ready-token _ _ _ _ _ _ _ c.expect_word-word.ensures (word_kinded _ _) (ready-inside 3 4 (omega arith) (omega arith) _ _ _ c.inside.ensures c.requires)))
-
-pub parse_ident-q-requires : goal.parse_ident-q-requires
-parse_ident-q-requires c = ready-after _ _ _ _ _ _ _ c.parse_ident-term.ensures (ident_steady _) (ready-after _ _ _ _ _ _ _ (eating _ _ _ _ [] c.eat-ate.ensures) (eat_steady _ _) (ready-token _ _ _ _ _ _ _ c.expect_word-word.ensures (word_kinded _ _) (ready-inside 3 4 (omega arith) (omega arith) _ _ _ c.inside.ensures c.requires)))
-
-pub close_at-requires-clause-near : goal.close_at-requires-clause-near
-close_at-requires-clause-near c = search near-ready
-
-pub close_at-requires-clause-small : goal.close_at-requires-clause-small
-close_at-requires-clause-small c = small-after 4 _ _ _ _ _ _ _ _ c.parse_ident-q.ensures c.requires (ident_steady _) (ready-after _ _ _ _ _ _ _ c.parse_ident-term.ensures (ident_steady _) (ready-after _ _ _ _ _ _ _ (eating _ _ _ _ [] c.eat-ate.ensures) (eat_steady _ _) (ready-token _ _ _ _ _ _ _ c.expect_word-word.ensures (word_kinded _ _) (ready-inside 3 4 (omega arith) (omega arith) _ _ _ c.inside.ensures c.requires))))
-
-pub returns : goal.returns
-returns c = flagged-read _ _ _ _ _ _ _ _ _ _ _ _ _ _ c.close_at.ensures c.eaten_second-flags.ensures c.inside.ensures (chain _ _ _ _ _ _ _ _ c.parse_ident-q.ensures (chain _ _ _ _ _ _ _ _ c.parse_ident-term.ensures (chain _ _ _ _ _ _ _ _ (eating _ _ _ _ _ c.eat-ate.ensures) (token _ _ _ _ _ _ c.expect_word-word.ensures))))
+pub returns-clause-reads : goal.returns-clause-reads
+returns-clause-reads c = flagged_read (seen c.args.s.now) _ c.close_at.ensures c.eaten_second-flags.ensures c.inside.ensures ((moved c.in_ok-word.ensures.reads) ▷ (moved c.eat-ate.ensures.reads) ▷ c.in_ok-term.ensures.reads ▷ c.in_ok-q.ensures.reads)

@@ -1,27 +1,24 @@
-use native.Mathlib.Omega.{arith}
-use Rattle.steps.proofs.MetLaws.{chain, node-read}
-use Rattle.steps.proofs.SizeLaws.{near-ready, small-after, ready-inside, ready-after, ident_steady}
+use Rattle.std.proofs.Common.{arith, sym, refl, ap, ◌∙◌, ◌+◌, []}
+use Rattle.tokens.specs.Token.{is_rparen}
+use Rattle.tokens.specs.Input.{peek, size}
+use Rattle.steps.specs.Met.{seen}
+use Rattle.steps.proofs.MetLaws.{◌▷◌, stop, moved, exit, node_read, node_stopped, flagged_read, flagged_stopped, bare_read, bare_stopped, nothing_read, next_yes, next_no, second_yes, second_no, leaf_read, bounded_within, within_less}
+use Rattle.steps.proofs.RowLaws.{plain_row}
 use Rattle.parser.specs.Defs.{parse_converter}
 use Rattle.parser.proofs.decls.parse_converter.Goals as goal
 
-pub inside-children-requires : goal.inside-children-requires
-inside-children-requires c = search near-ready
-
-pub parse_ident-inner-requires : goal.parse_ident-inner-requires
-parse_ident-inner-requires c = (ready-inside 3 4 (omega arith) (omega arith) _ _ _ c.inside-children.ensures c.requires)
-
-pub parse_ident-outer-requires : goal.parse_ident-outer-requires
-parse_ident-outer-requires c = ready-after _ _ _ _ _ _ _ c.parse_ident-inner.ensures (ident_steady _) (ready-inside 3 4 (omega arith) (omega arith) _ _ _ c.inside-children.ensures c.requires)
-
-pub parse_ident-q-requires : goal.parse_ident-q-requires
-parse_ident-q-requires c = ready-after _ _ _ _ _ _ _ c.parse_ident-outer.ensures (ident_steady _) (ready-after _ _ _ _ _ _ _ c.parse_ident-inner.ensures (ident_steady _) (ready-inside 3 4 (omega arith) (omega arith) _ _ _ c.inside-children.ensures c.requires))
-
-pub close_at-requires-clause-near : goal.close_at-requires-clause-near
-close_at-requires-clause-near c = search near-ready
-
-pub close_at-requires-clause-small : goal.close_at-requires-clause-small
-close_at-requires-clause-small c = small-after 4 _ _ _ _ _ _ _ _ c.parse_ident-q.ensures c.requires (ident_steady _) (ready-after _ _ _ _ _ _ _ c.parse_ident-outer.ensures (ident_steady _) (ready-after _ _ _ _ _ _ _ c.parse_ident-inner.ensures (ident_steady _) (ready-inside 3 4 (omega arith) (omega arith) _ _ _ c.inside-children.ensures c.requires)))
-
-pub returns : goal.returns
+pub returns-in_err-inner-clause-reads : goal.returns-in_err-inner-clause-reads
 unfolding parse_converter
-returns c = node-read _ _ _ _ _ _ _ _ _ _ _ _ _ c.close_at.ensures c.inside-children.ensures (chain _ _ _ _ _ _ _ _ c.parse_ident-q.ensures (chain _ _ _ _ _ _ _ _ c.parse_ident-outer.ensures c.parse_ident-inner.ensures))
+returns-in_err-inner-clause-reads c = exit c.from_residual.ensures (node_stopped _ _ _ c.inside.ensures (stop _ (stop _ (c.in_err-inner.ensures.reads))))
+
+pub returns-in_err-outer-clause-reads : goal.returns-in_err-outer-clause-reads
+unfolding parse_converter
+returns-in_err-outer-clause-reads c = exit c.from_residual-in_err-outer.ensures (node_stopped _ _ _ c.inside.ensures (stop _ (c.in_ok-inner.ensures.reads ▷ c.in_err-outer.ensures.reads)))
+
+pub returns-in_err-q-clause-reads : goal.returns-in_err-q-clause-reads
+unfolding parse_converter
+returns-in_err-q-clause-reads c = exit c.from_residual-in_err-q.ensures (node_stopped _ _ _ c.inside.ensures (c.in_ok-inner.ensures.reads ▷ c.in_ok-outer.ensures.reads ▷ c.in_err-q.ensures.reads))
+
+pub returns-clause-reads : goal.returns-clause-reads
+unfolding parse_converter
+returns-clause-reads c = node_read _ c.close_at.ensures c.inside.ensures (c.in_ok-inner.ensures.reads ▷ c.in_ok-outer.ensures.reads ▷ c.in_ok-q.ensures.reads)

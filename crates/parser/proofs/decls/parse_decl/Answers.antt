@@ -1,23 +1,16 @@
-use mathlib.Core.List.{[]}
-use Rattle.steps.proofs.MetLaws.{chain, flagged-read}
-use Rattle.steps.proofs.SizeLaws.{near-ready, small-after}
+use Rattle.std.proofs.Common.{arith, sym, refl, ap, ◌∙◌, ◌+◌, []}
+use Rattle.tokens.specs.Token.{is_rparen}
+use Rattle.tokens.specs.Input.{peek, size}
+use Rattle.steps.specs.Met.{seen}
+use Rattle.steps.proofs.MetLaws.{◌▷◌, stop, moved, exit, node_read, node_stopped, flagged_read, flagged_stopped, bare_read, bare_stopped, nothing_read, next_yes, next_no, second_yes, second_no, leaf_read, bounded_within, within_less}
+use Rattle.steps.proofs.RowLaws.{plain_row}
 use Rattle.parser.specs.Defs.{parse_decl}
-use Rattle.parser.proofs.DeclLaws.{modifiers_read, modifiers_ready, decl_names_steady}
-use mathlib.Core.Path.{refl}
 use Rattle.parser.proofs.decls.parse_decl.Goals as goal
 
-pub decl_state-m-requires : goal.decl_state-m-requires
-decl_state-m-requires c = search near-ready
-
-pub decl_names-q-requires : goal.decl_names-q-requires
-decl_names-q-requires c = modifiers_ready _ _ _ [] c.decl_state-m.ensures.after c.requires
-
-pub close_at-requires-clause-near : goal.close_at-requires-clause-near
-close_at-requires-clause-near c = search near-ready
-
-pub close_at-requires-clause-small : goal.close_at-requires-clause-small
-close_at-requires-clause-small c = small-after 4 _ _ _ _ _ _ _ _ c.decl_names-q.ensures c.requires (decl_names_steady _) (modifiers_ready _ _ _ [] c.decl_state-m.ensures.after c.requires)
-
-pub returns : goal.returns
+pub returns-in_err-q-clause-reads : goal.returns-in_err-q-clause-reads
 unfolding parse_decl
-returns c = flagged-read _ _ _ _ _ _ _ _ _ _ _ _ _ _ c.close_at.ensures c.decl_state-m.ensures.flags refl (chain _ _ _ _ _ _ _ _ c.decl_names-q.ensures (modifiers_read _ _ _ _ c.decl_state-m.ensures.after))
+returns-in_err-q-clause-reads c = exit c.from_residual.ensures (flagged_stopped _ _ _ refl ((moved c.decl_state-m.ensures.reads) ▷ c.in_err-q.ensures.reads))
+
+pub returns-clause-reads : goal.returns-clause-reads
+unfolding parse_decl
+returns-clause-reads c = flagged_read (seen c.args.s.now) _ c.close_at.ensures c.decl_state-m.ensures.flags refl ((moved c.decl_state-m.ensures.reads) ▷ c.in_ok-q.ensures.reads)

@@ -1,26 +1,20 @@
-use native.Mathlib.Omega.{arith}
-use Rattle.steps.proofs.MetLaws.{chain, node-read}
-use Rattle.steps.proofs.SizeLaws.{near-ready, small-after, ready-inside, ready_less}
-use Rattle.patterns.proofs.PatternLaws.{pattern_steady}
+use Rattle.std.proofs.Common.{arith, sym, refl, ap, ◌∙◌, ◌+◌, []}
+use Rattle.tokens.specs.Token.{is_rparen}
+use Rattle.tokens.specs.Input.{peek, size}
+use Rattle.steps.specs.Met.{seen}
+use Rattle.steps.proofs.MetLaws.{◌▷◌, stop, moved, exit, node_read, node_stopped, flagged_read, flagged_stopped, bare_read, bare_stopped, nothing_read, next_yes, next_no, second_yes, second_no, leaf_read, bounded_within, within_less}
+use Rattle.steps.proofs.RowLaws.{plain_row}
 use Rattle.parser.specs.Defs.{parse_etor}
-use Rattle.parser.proofs.DeclLaws.{etor_head_spare}
 use Rattle.parser.proofs.decls.parse_etor.Goals as goal
 
-pub inside-children-requires : goal.inside-children-requires
-inside-children-requires c = search near-ready
-
-pub etor_head-head-requires : goal.etor_head-head-requires
-etor_head-head-requires c = (ready-inside 3 4 (omega arith) (omega arith) _ _ _ c.inside-children.ensures c.requires)
-
-pub parse_pattern-q-requires : goal.parse_pattern-q-requires
-parse_pattern-q-requires c = ready_less 4 3 2 (omega arith) (omega arith) _ _ _ _ _ _ c.etor_head-head.ensures (etor_head_spare _) (ready-inside 3 4 (omega arith) (omega arith) _ _ _ c.inside-children.ensures c.requires)
-
-pub close_at-requires-clause-near : goal.close_at-requires-clause-near
-close_at-requires-clause-near c = search near-ready
-
-pub close_at-requires-clause-small : goal.close_at-requires-clause-small
-close_at-requires-clause-small c = small-after 3 _ _ _ _ _ _ _ _ c.parse_pattern-q.ensures c.requires (pattern_steady _ _) (ready_less 4 3 2 (omega arith) (omega arith) _ _ _ _ _ _ c.etor_head-head.ensures (etor_head_spare _) (ready-inside 3 4 (omega arith) (omega arith) _ _ _ c.inside-children.ensures c.requires))
-
-pub returns : goal.returns
+pub returns-in_err-head-clause-reads : goal.returns-in_err-head-clause-reads
 unfolding parse_etor
-returns c = node-read _ _ _ _ _ _ _ _ _ _ _ _ _ c.close_at.ensures c.inside-children.ensures (chain _ _ _ _ _ _ _ _ c.parse_pattern-q.ensures c.etor_head-head.ensures)
+returns-in_err-head-clause-reads c = exit c.from_residual.ensures (node_stopped _ _ _ c.inside.ensures (stop _ (c.in_err-head.ensures.reads)))
+
+pub returns-in_err-q-clause-reads : goal.returns-in_err-q-clause-reads
+unfolding parse_etor
+returns-in_err-q-clause-reads c = exit c.from_residual-in_err-q.ensures (node_stopped _ _ _ c.inside.ensures (c.in_ok-head.ensures.reads ▷ c.in_err-q.ensures.reads))
+
+pub returns-clause-reads : goal.returns-clause-reads
+unfolding parse_etor
+returns-clause-reads c = node_read _ c.close_at.ensures c.inside.ensures (c.in_ok-head.ensures.reads ▷ c.in_ok-q.ensures.reads)

@@ -1,22 +1,17 @@
-use native.Mathlib.Omega.{arith}
-use Rattle.steps.proofs.SizeLaws.{near-ready, small-after, ready-inside}
-use Rattle.parser.proofs.RuleLaws.{rule_parts_steady, rule-read}
+use Rattle.std.proofs.Common.{arith, sym, refl, ap, ◌∙◌, ◌+◌, []}
+use Rattle.tokens.specs.Token.{is_rparen}
+use Rattle.tokens.specs.Input.{peek, size}
+use Rattle.steps.specs.Met.{seen}
+use Rattle.steps.proofs.MetLaws.{◌▷◌, stop, moved, exit, node_read, node_stopped, flagged_read, flagged_stopped, bare_read, bare_stopped, nothing_read, next_yes, next_no, second_yes, second_no, leaf_read, bounded_within, within_less}
+use Rattle.steps.proofs.RowLaws.{plain_row}
+use Rattle.parser.specs.Defs.{parse_rule}
+use Rattle.parser.proofs.RuleLaws.{parts_at}
 use Rattle.parser.proofs.rules.parse_rule.Goals as goal
 
-pub rule_flags-flags-requires : goal.rule_flags-flags-requires
-rule_flags-flags-requires c = search near-ready
+pub returns-in_err-q-clause-reads : goal.returns-in_err-q-clause-reads
+unfolding parse_rule
+returns-in_err-q-clause-reads c = exit c.from_residual.ensures (flagged_stopped _ _ _ c.inside.ensures (parts_at (seen c.args.s.now) _ c.args.p c.next_pos.ensures c.inside.ensures c.in_err-q.ensures.reads))
 
-pub inside-requires : goal.inside-requires
-inside-requires c = search near-ready
-
-pub rule_parts-q-requires : goal.rule_parts-q-requires
-rule_parts-q-requires c = ready-inside 2 3 (omega arith) (omega arith) _ _ _ c.inside.ensures c.requires
-
-pub close_at-requires-clause-near : goal.close_at-requires-clause-near
-close_at-requires-clause-near c = search near-ready
-
-pub close_at-requires-clause-small : goal.close_at-requires-clause-small
-close_at-requires-clause-small c = small-after 3 _ _ _ _ _ _ _ _ c.rule_parts-q.ensures c.requires (rule_parts_steady _ _) (ready-inside 2 3 (omega arith) (omega arith) _ _ _ c.inside.ensures c.requires)
-
-pub returns : goal.returns
-returns c = rule-read _ _ _ _ _ _ _ _ _ _ _ _ c.close_at.ensures c.rule_flags-flags.ensures c.next_token-place.ensures c.inside.ensures c.rule_parts-q.ensures
+pub returns-clause-reads : goal.returns-clause-reads
+unfolding parse_rule
+returns-clause-reads c = flagged_read (seen c.args.s.now) _ c.close_at.ensures c.rule_flags-flags.ensures c.inside.ensures (parts_at (seen c.args.s.now) _ c.args.p c.next_pos.ensures c.inside.ensures c.in_ok-q.ensures.reads)

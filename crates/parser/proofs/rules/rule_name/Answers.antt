@@ -1,21 +1,24 @@
-use Rattle.steps.proofs.MetLaws.{next_no, nothing_read}
-use Rattle.steps.proofs.SizeLaws.{near-ready}
+use Rattle.std.proofs.Common.{arith, sym, refl, ap, ◌∙◌, ◌+◌, []}
+use Rattle.tokens.specs.Token.{is_rparen}
+use Rattle.tokens.specs.Input.{peek, size}
+use Rattle.steps.specs.Met.{seen}
+use Rattle.steps.proofs.MetLaws.{◌▷◌, stop, moved, exit, node_read, node_stopped, flagged_read, flagged_stopped, bare_read, bare_stopped, nothing_read, next_yes, next_no, second_yes, second_no, leaf_read, bounded_within, within_less}
+use Rattle.steps.proofs.RowLaws.{plain_row}
 use Rattle.parser.specs.Defs.{rule_name}
-use Rattle.parser.proofs.RuleLaws.{name-refused, name-read}
+use Rattle.parser.proofs.RuleLaws.{name-bounded}
 use Rattle.parser.proofs.rules.rule_name.Goals as goal
 
-pub second_token-u-requires : goal.second_token-u-requires
-second_token-u-requires c = search near-ready
-
-pub refuse_after-requires : goal.refuse_after-requires
-refuse_after-requires c = search near-ready
-
-pub returns-then-is_refused : goal.returns-then-is_refused
-returns-then-is_refused c = search name-refused fits 10000
-
-pub returns-then-is_symbol : goal.returns-then-is_symbol
-returns-then-is_symbol c = search name-read
-
-pub returns : goal.returns
+pub returns-then-is_refused-clause-reads : goal.returns-then-is_refused-clause-reads
 unfolding rule_name
-returns c = next_no _ _ _ _ _ _ _ _ _ _ _ _ c.next_token-t.ensures c.is_symbol.ensures c.if-is_symbol.false (nothing_read _ _)
+returns-then-is_refused-clause-reads c = next_yes _ _ _ c.next_token.ensures c.is_symbol.ensures c.if-is_symbol.true (second_yes _ _ _ c.second_token.ensures c.is_refused.ensures c.if-is_refused.true (moved c.refuse_after.ensures))
+
+pub returns-then-is_refused-clause-within : goal.returns-then-is_refused-clause-within
+returns-then-is_refused-clause-within c = bounded_within (name-bounded (seen c.args.s.now)) (returns-then-is_refused-clause-reads c)
+
+pub returns-then-is_symbol-clause-reads : goal.returns-then-is_symbol-clause-reads
+unfolding rule_name
+returns-then-is_symbol-clause-reads c = next_yes _ _ _ c.next_token.ensures c.is_symbol.ensures c.if-is_symbol.true (second_no _ _ _ c.second_token.ensures c.is_refused.ensures c.if-is_refused.false c.parse_name_or.ensures.reads)
+
+pub returns-clause-reads : goal.returns-clause-reads
+unfolding rule_name
+returns-clause-reads c = next_no _ _ _ c.next_token.ensures c.is_symbol.ensures c.if-is_symbol.false (nothing_read _ _)

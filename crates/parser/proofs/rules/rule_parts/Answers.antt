@@ -1,24 +1,24 @@
-use native.Mathlib.Omega.{arith}
-use Rattle.steps.proofs.MetLaws.{chain}
-use Rattle.steps.proofs.SizeLaws.{ready-after, ready-more}
-use Rattle.patterns.proofs.PatternLaws.{pattern_steady}
-use Rattle.exprs.proofs.IfletLaws.{iflets_steady}
+use Rattle.std.proofs.Common.{arith, sym, refl, ap, ◌∙◌, ◌+◌, []}
+use Rattle.tokens.specs.Token.{is_rparen}
+use Rattle.tokens.specs.Input.{peek, size}
+use Rattle.steps.specs.Met.{seen}
+use Rattle.steps.proofs.MetLaws.{◌▷◌, stop, moved, exit, node_read, node_stopped, flagged_read, flagged_stopped, bare_read, bare_stopped, nothing_read, next_yes, next_no, second_yes, second_no, leaf_read, bounded_within, within_less}
+use Rattle.steps.proofs.RowLaws.{plain_row}
 use Rattle.parser.specs.Defs.{rule_parts}
-use Rattle.parser.proofs.RuleLaws.{rule_head_steady}
 use Rattle.parser.proofs.rules.rule_parts.Goals as goal
 
-pub rule_head-head-requires : goal.rule_head-head-requires
-rule_head-head-requires c = ready-more 3 4 (omega arith) (omega arith) _ _ c.requires
-
-pub parse_pattern-pattern-requires : goal.parse_pattern-pattern-requires
-parse_pattern-pattern-requires c = ready-after _ _ _ _ _ _ _ c.rule_head-head.ensures (rule_head_steady _ _) c.requires
-
-pub parse_iflets-iflets-requires : goal.parse_iflets-iflets-requires
-parse_iflets-iflets-requires c = ready-after _ _ _ _ _ _ _ c.parse_pattern-pattern.ensures (pattern_steady _ _) (ready-after _ _ _ _ _ _ _ c.rule_head-head.ensures (rule_head_steady _ _) c.requires)
-
-pub parse_iflet_or_expr-requires : goal.parse_iflet_or_expr-requires
-parse_iflet_or_expr-requires c = ready-after _ _ _ _ _ _ _ c.parse_iflets-iflets.ensures (iflets_steady _) (ready-after _ _ _ _ _ _ _ c.parse_pattern-pattern.ensures (pattern_steady _ _) (ready-after _ _ _ _ _ _ _ c.rule_head-head.ensures (rule_head_steady _ _) c.requires))
-
-pub returns : goal.returns
+pub returns-in_err-head-clause-reads : goal.returns-in_err-head-clause-reads
 unfolding rule_parts
-returns c = chain _ _ _ _ _ _ _ _ c.parse_iflet_or_expr.ensures (chain _ _ _ _ _ _ _ _ c.parse_iflets-iflets.ensures (chain _ _ _ _ _ _ _ _ c.parse_pattern-pattern.ensures c.rule_head-head.ensures))
+returns-in_err-head-clause-reads c = exit c.from_residual.ensures (stop _ (stop _ (stop _ (c.in_err-head.ensures.reads))))
+
+pub returns-in_err-pattern-clause-reads : goal.returns-in_err-pattern-clause-reads
+unfolding rule_parts
+returns-in_err-pattern-clause-reads c = exit c.from_residual-in_err-pattern.ensures (stop _ (stop _ (c.in_ok-head.ensures.reads ▷ c.in_err-pattern.ensures.reads)))
+
+pub returns-in_err-iflets-clause-reads : goal.returns-in_err-iflets-clause-reads
+unfolding rule_parts
+returns-in_err-iflets-clause-reads c = exit c.from_residual-in_err-iflets.ensures (stop _ (c.in_ok-head.ensures.reads ▷ c.in_ok-pattern.ensures.reads ▷ c.in_err-iflets.ensures.reads))
+
+pub returns-clause-reads : goal.returns-clause-reads
+unfolding rule_parts
+returns-clause-reads c = c.in_ok-head.ensures.reads ▷ c.in_ok-pattern.ensures.reads ▷ c.in_ok-iflets.ensures.reads ▷ c.parse_iflet_or_expr.ensures.reads

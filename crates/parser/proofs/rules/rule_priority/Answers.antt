@@ -1,18 +1,20 @@
-use Rattle.steps.proofs.SizeLaws.{near-ready}
-use Rattle.parser.proofs.RuleLaws.{priority-read, priority-refused, priority-none}
+use Rattle.std.proofs.Common.{arith, sym, refl, ap, ◌∙◌, ◌+◌, []}
+use Rattle.tokens.specs.Token.{is_rparen}
+use Rattle.tokens.specs.Input.{peek, size}
+use Rattle.steps.specs.Met.{seen}
+use Rattle.steps.proofs.MetLaws.{◌▷◌, stop, moved, exit, node_read, node_stopped, flagged_read, flagged_stopped, bare_read, bare_stopped, nothing_read, next_yes, next_no, second_yes, second_no, leaf_read, bounded_within, within_less}
+use Rattle.steps.proofs.RowLaws.{plain_row}
+use Rattle.parser.proofs.RuleLaws.{priority_none, priority_refused, priority_read, priority-bounded}
 use Rattle.parser.proofs.rules.rule_priority.Goals as goal
 
-pub put_leaf-requires : goal.put_leaf-requires
-put_leaf-requires c = search near-ready
+pub returns-then-not-is_int-clause-reads : goal.returns-then-not-is_int-clause-reads
+returns-then-not-is_int-clause-reads c = priority_none (seen c.args.s.now) _ _ _ c.next_token-t.ensures c.is_int.ensures c.if-not-is_int.true
 
-pub returns-then-is_i64 : goal.returns-then-is_i64
-returns-then-is_i64 c = priority-read _ _ _ _ _ _ _ _ _ _ _ c.next_token-t.ensures c.is_int.ensures c.if-is_int.true c.is_i64.ensures c.if-is_i64.true c.put_leaf.ensures
+pub returns-then-not-is_i64-clause-reads : goal.returns-then-not-is_i64-clause-reads
+returns-then-not-is_i64-clause-reads c = priority_refused (seen c.args.s.now) _ _ _ c.next_token-t.ensures c.is_int.ensures _ c.if-not-is_int.false c.is_i64.ensures c.if-not-is_i64.true c.after.ensures
 
-pub refuse_place-requires : goal.refuse_place-requires
-refuse_place-requires c = search near-ready
+pub returns-clause-reads : goal.returns-clause-reads
+returns-clause-reads c = priority_read (seen c.args.s.now) _ _ _ c.next_token-t.ensures c.is_int.ensures _ c.if-not-is_int.false c.is_i64.ensures c.if-not-is_i64.false c.put_leaf.ensures
 
-pub returns-then-is_int : goal.returns-then-is_int
-returns-then-is_int c = priority-refused _ _ _ _ _ _ _ _ _ _ c.next_token-t.ensures c.is_int.ensures c.if-is_int.true c.is_i64.ensures c.if-is_i64.false c.refuse_place.ensures
-
-pub returns : goal.returns
-returns c = priority-none _ _ _ _ _ _ _ _ c.next_token-t.ensures c.is_int.ensures c.if-is_int.false
+pub returns-clause-within : goal.returns-clause-within
+returns-clause-within c = bounded_within (priority-bounded (seen c.args.s.now) _) (returns-clause-reads c)

@@ -1,11 +1,11 @@
-use Prim.Native.Nat.{◌-◌}
-use Rattle.tokens.specs.Input.{input}
-use Rattle.tokens.specs.Token.{token_count}
+use Rattle.std.proofs.Common.{ℕ, suc, ◌+◌, ◌-◌, ◌≤◌}
+use Rattle.tokens.specs.Input.{size}
+use Rattle.steps.specs.Met.{seen}
 use Rattle.parser.proofs.ModifierLaws.{Passing}
 use Rattle.parser.proofs.types.modifiers_from.Given as goal
 
-abbrev pub invariant-loop-at : goal.invariant-loop-at
-invariant-loop-at l = Passing (input l.tokens l.text l.end) l.from l.at l.e l.n
+abbrev pub invariant-loop-more_e : goal.invariant-loop-more_e
+invariant-loop-more_e l = Passing (seen l.s) l.initial.at l.at l.e l.n
 
-abbrev pub decreases-loop-at : goal.decreases-loop-at
-decreases-loop-at l = token_count l.tokens - l.at
+abbrev pub decreases-loop-more_e : goal.decreases-loop-more_e
+decreases-loop-more_e l = suc (size (seen l.s)) - l.at

@@ -1,24 +1,28 @@
-use native.Mathlib.Omega.{arith}
-use Rattle.steps.proofs.MetLaws.{chain, token, node-read}
-use Rattle.steps.proofs.SizeLaws.{near-ready, small-after, small-moved, ready-inside, ready-after, ready-token, lparen_kinded, ident_steady}
+use Rattle.std.proofs.Common.{arith, sym, refl, ap, ◌∙◌, ◌+◌, []}
+use Rattle.tokens.specs.Token.{is_rparen}
+use Rattle.tokens.specs.Input.{peek, size}
+use Rattle.steps.specs.Met.{seen}
+use Rattle.steps.proofs.MetLaws.{◌▷◌, stop, moved, exit, node_read, node_stopped, flagged_read, flagged_stopped, bare_read, bare_stopped, nothing_read, next_yes, next_no, second_yes, second_no, leaf_read, bounded_within, within_less}
+use Rattle.steps.proofs.RowLaws.{plain_row}
 use Rattle.parser.specs.Types.{parse_struct_field}
 use Rattle.parser.proofs.types.parse_struct_field.Goals as goal
 
-pub inside-requires : goal.inside-requires
-inside-requires c = search near-ready
-
-pub parse_ident-name-requires : goal.parse_ident-name-requires
-parse_ident-name-requires c = search (ready-token, lparen_kinded, ready-inside 3 4 (omega arith) (omega arith))
-
-pub parse_ident-ty-requires : goal.parse_ident-ty-requires
-parse_ident-ty-requires c = search (ready-after, ident_steady, ready-token, lparen_kinded, ready-inside 3 4 (omega arith) (omega arith))
-
-pub close_at-requires-clause-near : goal.close_at-requires-clause-near
-close_at-requires-clause-near c = search near-ready
-
-pub close_at-requires-clause-small : goal.close_at-requires-clause-small
-close_at-requires-clause-small c = small-moved _ _ _ _ _ c.expect_rparen-q.ensures (small-after 4 _ _ _ _ _ _ _ _ c.parse_ident-ty.ensures c.requires (ident_steady _) (ready-after _ _ _ _ _ _ _ c.parse_ident-name.ensures (ident_steady _) (ready-token _ _ _ _ _ _ _ c.expect_lparen-open.ensures lparen_kinded (ready-inside 3 4 (omega arith) (omega arith) _ _ _ c.inside.ensures c.requires))))
-
-pub returns : goal.returns
+pub returns-in_err-open-clause-reads : goal.returns-in_err-open-clause-reads
 unfolding parse_struct_field
-returns c = node-read _ _ _ _ _ _ _ _ _ _ _ _ _ c.close_at.ensures c.inside.ensures (chain _ _ _ _ _ _ _ _ (token _ _ _ _ _ _ c.expect_rparen-q.ensures) (chain _ _ _ _ _ _ _ _ c.parse_ident-ty.ensures (chain _ _ _ _ _ _ _ _ c.parse_ident-name.ensures (token _ _ _ _ _ _ c.expect_lparen-open.ensures))))
+returns-in_err-open-clause-reads c = exit c.from_residual.ensures (node_stopped _ _ _ c.inside.ensures (stop _ (stop _ (stop _ ((moved c.in_err-open.ensures.reads))))))
+
+pub returns-in_err-name-clause-reads : goal.returns-in_err-name-clause-reads
+unfolding parse_struct_field
+returns-in_err-name-clause-reads c = exit c.from_residual-in_err-name.ensures (node_stopped _ _ _ c.inside.ensures (stop _ (stop _ ((moved c.in_ok-open.ensures.reads) ▷ c.in_err-name.ensures.reads))))
+
+pub returns-in_err-ty-clause-reads : goal.returns-in_err-ty-clause-reads
+unfolding parse_struct_field
+returns-in_err-ty-clause-reads c = exit c.from_residual-in_err-ty.ensures (node_stopped _ _ _ c.inside.ensures (stop _ ((moved c.in_ok-open.ensures.reads) ▷ c.in_ok-name.ensures.reads ▷ c.in_err-ty.ensures.reads)))
+
+pub returns-in_err-q-clause-reads : goal.returns-in_err-q-clause-reads
+unfolding parse_struct_field
+returns-in_err-q-clause-reads c = exit c.from_residual-in_err-q.ensures (node_stopped _ _ _ c.inside.ensures ((moved c.in_ok-open.ensures.reads) ▷ c.in_ok-name.ensures.reads ▷ c.in_ok-ty.ensures.reads ▷ (moved c.in_err-q.ensures.reads)))
+
+pub returns-clause-reads : goal.returns-clause-reads
+unfolding parse_struct_field
+returns-clause-reads c = node_read _ c.close_at.ensures c.inside.ensures ((moved c.in_ok-open.ensures.reads) ▷ c.in_ok-name.ensures.reads ▷ c.in_ok-ty.ensures.reads ▷ (moved c.in_ok-q.ensures.reads))

@@ -1,22 +1,16 @@
-use native.Mathlib.Omega.{arith}
-use Rattle.steps.proofs.MetLaws.{node-read}
-use Rattle.steps.proofs.SizeLaws.{near-ready, small-after, ready-inside}
+use Rattle.std.proofs.Common.{arith, sym, refl, ap, ◌∙◌, ◌+◌, []}
+use Rattle.tokens.specs.Token.{is_rparen}
+use Rattle.tokens.specs.Input.{peek, size}
+use Rattle.steps.specs.Met.{seen}
+use Rattle.steps.proofs.MetLaws.{◌▷◌, stop, moved, exit, node_read, node_stopped, flagged_read, flagged_stopped, bare_read, bare_stopped, nothing_read, next_yes, next_no, second_yes, second_no, leaf_read, bounded_within, within_less}
+use Rattle.steps.proofs.RowLaws.{plain_row}
 use Rattle.parser.specs.Types.{parse_struct_fields}
-use Rattle.parser.proofs.TypeLaws.{struct_fields_steady}
 use Rattle.parser.proofs.types.parse_struct_fields.Goals as goal
 
-pub inside-children-requires : goal.inside-children-requires
-inside-children-requires c = search near-ready
-
-pub struct_field_row-q-requires : goal.struct_field_row-q-requires
-struct_field_row-q-requires c = search (ready-inside 2 3 (omega arith) (omega arith))
-
-pub close_at-requires-clause-near : goal.close_at-requires-clause-near
-close_at-requires-clause-near c = search near-ready
-
-pub close_at-requires-clause-small : goal.close_at-requires-clause-small
-close_at-requires-clause-small c = small-after 3 _ _ _ _ _ _ _ _ c.struct_field_row-q.ensures c.requires (struct_fields_steady _) (ready-inside 2 3 (omega arith) (omega arith) _ _ _ c.inside-children.ensures c.requires)
-
-pub returns : goal.returns
+pub returns-in_err-q-clause-reads : goal.returns-in_err-q-clause-reads
 unfolding parse_struct_fields
-returns c = node-read _ _ _ _ _ _ _ _ _ _ _ _ _ c.close_at.ensures c.inside-children.ensures c.struct_field_row-q.ensures
+returns-in_err-q-clause-reads c = exit c.from_residual.ensures (node_stopped _ _ _ c.inside.ensures ((plain_row (seen c.args.s.now) (λ i. is_rparen (peek (seen c.args.s.now) i)) _ c.in_err-q.ensures.reads)))
+
+pub returns-clause-reads : goal.returns-clause-reads
+unfolding parse_struct_fields
+returns-clause-reads c = node_read _ c.close_at.ensures c.inside.ensures ((plain_row (seen c.args.s.now) (λ i. is_rparen (peek (seen c.args.s.now) i)) _ c.in_ok-q.ensures.reads))

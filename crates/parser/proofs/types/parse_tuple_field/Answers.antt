@@ -1,22 +1,14 @@
-use native.Mathlib.Omega.{arith}
-use Rattle.steps.proofs.SizeLaws.{near-ready, small-after, ready-inside, ident_steady}
-use Rattle.parser.proofs.TypeLaws.{stays_at, tuple_field_read, ready-here}
+use Rattle.std.proofs.Common.{arith, sym, refl, ap, ◌∙◌, ◌+◌, []}
+use Rattle.tokens.specs.Token.{is_rparen}
+use Rattle.tokens.specs.Input.{peek, size}
+use Rattle.steps.specs.Met.{seen}
+use Rattle.steps.proofs.MetLaws.{◌▷◌, stop, moved, exit, node_read, node_stopped, flagged_read, flagged_stopped, bare_read, bare_stopped, nothing_read, next_yes, next_no, second_yes, second_no, leaf_read, bounded_within, within_less}
+use Rattle.steps.proofs.RowLaws.{plain_row}
+use Rattle.parser.proofs.TypeLaws.{tuple_field_read, tuple_field_stopped}
 use Rattle.parser.proofs.types.parse_tuple_field.Goals as goal
 
-pub returns-in_default : goal.returns-in_default
-returns-in_default c = search stays_at
+pub returns-in_err-q-clause-reads : goal.returns-in_err-q-clause-reads
+returns-in_err-q-clause-reads c = exit c.from_residual.ensures (tuple_field_stopped (seen c.args.s.now) _ _ c.inside.ensures c.in_err-q.ensures.reads)
 
-pub inside-children-requires : goal.inside-children-requires
-inside-children-requires c = near-ready 3 _ _ (ready-here 3 _ _ _ _ _ c.requires c.in-Accepted.is)
-
-pub parse_ident-q-requires : goal.parse_ident-q-requires
-parse_ident-q-requires c = ready-inside 3 4 (omega arith) (omega arith) _ _ _ c.inside-children.ensures (ready-here 3 _ _ _ _ _ c.requires c.in-Accepted.is)
-
-pub close-requires-clause-near : goal.close-requires-clause-near
-close-requires-clause-near c = near-ready 3 _ _ (ready-here 3 _ _ _ _ _ c.requires c.in-Accepted.is)
-
-pub close-requires-clause-small : goal.close-requires-clause-small
-close-requires-clause-small c = small-after 4 _ _ _ _ _ _ _ _ c.parse_ident-q.ensures c.requires (ident_steady _) (ready-inside 3 4 (omega arith) (omega arith) _ _ _ c.inside-children.ensures (ready-here 3 _ _ _ _ _ c.requires c.in-Accepted.is))
-
-pub returns : goal.returns
-returns c = tuple_field_read _ _ _ _ _ _ _ _ _ _ _ _ _ _ c.in-Accepted.is c.next_token-pos.ensures c.inside-children.ensures c.parse_ident-q.ensures c.close.ensures
+pub returns-clause-reads : goal.returns-clause-reads
+returns-clause-reads c = tuple_field_read (seen c.args.s.now) _ _ c.inside.ensures c.next_pos.ensures c.in_ok-q.ensures.reads c.close.ensures

@@ -1,29 +1,25 @@
-use native.Mathlib.Omega.{arith}
-use Rattle.steps.proofs.MetLaws.{chain, flagged-read}
-use Rattle.steps.proofs.SizeLaws.{near-ready, small-after, ready-inside, ready-after, ready_less, ident-bounded}
-use Rattle.parser.specs.Types.{parse_type}
-use Rattle.parser.proofs.TypeLaws.{typevalue_steady}
-use Rattle.parser.proofs.ModifierLaws.{modifiers_read, modifiers_steady}
+use Rattle.std.proofs.Common.{arith, sym, refl, ap, ◌∙◌, ◌+◌, []}
+use Rattle.tokens.specs.Token.{is_rparen}
+use Rattle.tokens.specs.Input.{peek, size}
+use Rattle.steps.specs.Met.{seen}
+use Rattle.steps.proofs.MetLaws.{◌▷◌, stop, moved, exit, node_read, node_stopped, flagged_read, flagged_stopped, bare_read, bare_stopped, nothing_read, next_yes, next_no, second_yes, second_no, leaf_read, bounded_within, within_less}
+use Rattle.steps.proofs.RowLaws.{plain_row}
+use Rattle.parser.specs.Types.{parse_type, modifier_flags}
+use Rattle.steps.proofs.NameLaws.{ident_next}
 use Rattle.parser.proofs.types.parse_type.Goals as goal
 
-pub inside-requires : goal.inside-requires
-inside-requires c = search near-ready
-
-pub parse_ident-name-requires : goal.parse_ident-name-requires
-parse_ident-name-requires c = search (ready-inside 3 4 (omega arith) (omega arith))
-
-pub pass_modifiers-after-requires : goal.pass_modifiers-after-requires
-pass_modifiers-after-requires c = c.modifiers_after-m.ensures.near
-
-pub parse_typevalue-q-requires : goal.parse_typevalue-q-requires
-parse_typevalue-q-requires c = ready-after _ _ _ _ _ _ _ (modifiers_read _ _ _ _ _ _ _ _ _ _ c.inside.ensures c.parse_ident-name.ensures c.modifiers_after-m.ensures.ends c.pass_modifiers-after.ensures) (modifiers_steady _) (ready_less 4 3 2 (omega arith) (omega arith) _ _ _ _ _ _ c.parse_ident-name.ensures (ident-bounded _) (ready-inside 3 4 (omega arith) (omega arith) _ _ _ c.inside.ensures c.requires))
-
-pub close_at-requires-clause-near : goal.close_at-requires-clause-near
-close_at-requires-clause-near c = search near-ready
-
-pub close_at-requires-clause-small : goal.close_at-requires-clause-small
-close_at-requires-clause-small c = small-after 3 _ _ _ _ _ _ _ _ c.parse_typevalue-q.ensures c.requires (typevalue_steady _) (ready-after _ _ _ _ _ _ _ (modifiers_read _ _ _ _ _ _ _ _ _ _ c.inside.ensures c.parse_ident-name.ensures c.modifiers_after-m.ensures.ends c.pass_modifiers-after.ensures) (modifiers_steady _) (ready_less 4 3 2 (omega arith) (omega arith) _ _ _ _ _ _ c.parse_ident-name.ensures (ident-bounded _) (ready-inside 3 4 (omega arith) (omega arith) _ _ _ c.inside.ensures c.requires)))
-
-pub returns : goal.returns
+pub returns-in_err-name-clause-reads : goal.returns-in_err-name-clause-reads
 unfolding parse_type
-returns c = flagged-read _ _ _ _ _ _ _ _ _ _ _ _ _ _ c.close_at.ensures c.modifiers_after-m.ensures.flags c.inside.ensures (chain _ _ _ _ _ _ _ _ c.parse_typevalue-q.ensures (chain _ _ _ _ _ _ _ _ (modifiers_read _ _ _ _ _ _ _ _ _ _ c.inside.ensures c.parse_ident-name.ensures c.modifiers_after-m.ensures.ends c.pass_modifiers-after.ensures) c.parse_ident-name.ensures))
+returns-in_err-name-clause-reads c = exit c.from_residual.ensures (flagged_stopped _ _ _ c.inside.ensures (stop _ (stop _ (c.in_err-name.ensures.reads))))
+
+pub returns-in_err-after-clause-reads : goal.returns-in_err-after-clause-reads
+unfolding parse_type
+returns-in_err-after-clause-reads c = exit c.from_residual-in_err-after.ensures (flagged_stopped _ _ _ c.inside.ensures (stop _ (c.in_ok-name.ensures.reads ▷ (moved c.in_err-after.ensures.reads))))
+
+pub returns-in_err-q-clause-reads : goal.returns-in_err-q-clause-reads
+unfolding parse_type
+returns-in_err-q-clause-reads c = exit c.from_residual-in_err-q.ensures (flagged_stopped _ _ _ c.inside.ensures (c.in_ok-name.ensures.reads ▷ (moved c.in_ok-after.ensures.reads) ▷ c.in_err-q.ensures.reads))
+
+pub returns-clause-reads : goal.returns-clause-reads
+unfolding parse_type
+returns-clause-reads c = flagged_read (seen c.args.s.now) _ c.close_at.ensures (c.modifiers_from-m.ensures.flags ∙ ap (modifier_flags (seen c.args.s.now) (size (seen c.args.s.now)) 0 0) (ident_next (seen c.args.s.now) c.in_ok-name.ensures.reads ∙ ap (λ x. x.next + 1) c.inside.ensures)) c.inside.ensures (c.in_ok-name.ensures.reads ▷ (moved c.in_ok-after.ensures.reads) ▷ c.in_ok-q.ensures.reads)

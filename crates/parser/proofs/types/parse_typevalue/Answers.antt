@@ -1,26 +1,28 @@
-use Rattle.steps.proofs.MetLaws.{second_yes, second_no, refusing_after}
-use Rattle.steps.proofs.SizeLaws.{near-ready}
+use Rattle.std.proofs.Common.{arith, sym, refl, ap, ◌∙◌, ◌+◌, []}
+use Rattle.tokens.specs.Token.{is_rparen}
+use Rattle.tokens.specs.Input.{peek, size}
+use Rattle.steps.specs.Met.{seen}
+use Rattle.steps.proofs.MetLaws.{◌▷◌, stop, moved, exit, node_read, node_stopped, flagged_read, flagged_stopped, bare_read, bare_stopped, nothing_read, next_yes, next_no, second_yes, second_no, leaf_read, bounded_within, within_less}
+use Rattle.steps.proofs.RowLaws.{plain_row}
 use Rattle.parser.specs.Types.{parse_typevalue}
+use Rattle.parser.proofs.TypeLaws.{typevalue_bounded}
 use Rattle.parser.proofs.types.parse_typevalue.Goals as goal
 
-pub second_token-u-requires : goal.second_token-u-requires
-second_token-u-requires c = search near-ready
-
-pub returns-then-is_word : goal.returns-then-is_word
+pub returns-then-is_word-clause-reads : goal.returns-then-is_word-clause-reads
 unfolding parse_typevalue
-returns-then-is_word c = second_yes _ _ _ _ _ _ _ _ _ _ _ _ c.second_token-u.ensures c.is_word.ensures c.if-is_word.true c.value_primitive.ensures
+returns-then-is_word-clause-reads c = second_yes _ _ _ c.second_token-u.ensures c.is_word.ensures c.if-is_word.true (c.value_primitive.ensures.reads)
 
-pub returns-then-is_word-2 : goal.returns-then-is_word-2
+pub returns-then-is_word-2-clause-reads : goal.returns-then-is_word-2-clause-reads
 unfolding parse_typevalue
-returns-then-is_word-2 c = second_no _ _ _ _ _ _ _ _ _ _ _ _ c.second_token-u.ensures c.is_word.ensures c.if-is_word.false (second_yes _ _ _ _ _ _ _ _ _ _ _ _ c.second_token-u.ensures c.is_word-2.ensures c.if-is_word-2.true c.value_enum.ensures)
+returns-then-is_word-2-clause-reads c = second_no _ _ _ c.second_token-u.ensures c.is_word.ensures c.if-is_word.false (second_yes _ _ _ c.second_token-u.ensures c.is_word-2.ensures c.if-is_word-2.true (c.value_enum.ensures.reads))
 
-pub returns-then-is_word-3 : goal.returns-then-is_word-3
+pub returns-then-is_word-3-clause-reads : goal.returns-then-is_word-3-clause-reads
 unfolding parse_typevalue
-returns-then-is_word-3 c = second_no _ _ _ _ _ _ _ _ _ _ _ _ c.second_token-u.ensures c.is_word.ensures c.if-is_word.false (second_no _ _ _ _ _ _ _ _ _ _ _ _ c.second_token-u.ensures c.is_word-2.ensures c.if-is_word-2.false (second_yes _ _ _ _ _ _ _ _ _ _ _ _ c.second_token-u.ensures c.is_word-3.ensures c.if-is_word-3.true c.value_struct.ensures))
+returns-then-is_word-3-clause-reads c = second_no _ _ _ c.second_token-u.ensures c.is_word.ensures c.if-is_word.false (second_no _ _ _ c.second_token-u.ensures c.is_word-2.ensures c.if-is_word-2.false (second_yes _ _ _ c.second_token-u.ensures c.is_word-3.ensures c.if-is_word-3.true (c.value_struct.ensures.reads)))
 
-pub refuse_after-requires : goal.refuse_after-requires
-refuse_after-requires c = search near-ready
-
-pub returns : goal.returns
+pub returns-clause-reads : goal.returns-clause-reads
 unfolding parse_typevalue
-returns c = second_no _ _ _ _ _ _ _ _ _ _ _ _ c.second_token-u.ensures c.is_word.ensures c.if-is_word.false (second_no _ _ _ _ _ _ _ _ _ _ _ _ c.second_token-u.ensures c.is_word-2.ensures c.if-is_word-2.false (second_no _ _ _ _ _ _ _ _ _ _ _ _ c.second_token-u.ensures c.is_word-3.ensures c.if-is_word-3.false (refusing_after _ _ _ _ _ _ c.refuse_after.ensures)))
+returns-clause-reads c = second_no _ _ _ c.second_token-u.ensures c.is_word.ensures c.if-is_word.false (second_no _ _ _ c.second_token-u.ensures c.is_word-2.ensures c.if-is_word-2.false (second_no _ _ _ c.second_token-u.ensures c.is_word-3.ensures c.if-is_word-3.false (moved c.refuse_after.ensures)))
+
+pub returns-clause-within : goal.returns-clause-within
+returns-clause-within c = within_less 1 1 0 1 0 0 _ _ _ (omega arith) (omega arith) (bounded_within (typevalue_bounded (seen c.args.s.now)) (returns-clause-reads c))

@@ -1,9 +1,10 @@
-use Rattle.steps.proofs.MetLaws.{bare-read, nothing_read}
-use Rattle.parser.proofs.TypeLaws.{small-inside}
+use Rattle.std.proofs.Common.{arith, sym, refl, ap, ◌∙◌, ◌+◌, []}
+use Rattle.tokens.specs.Token.{is_rparen}
+use Rattle.tokens.specs.Input.{peek, size}
+use Rattle.steps.specs.Met.{seen}
+use Rattle.steps.proofs.MetLaws.{◌▷◌, stop, moved, exit, node_read, node_stopped, flagged_read, flagged_stopped, bare_read, bare_stopped, nothing_read, next_yes, next_no, second_yes, second_no, leaf_read, bounded_within, within_less}
+use Rattle.steps.proofs.RowLaws.{plain_row}
 use Rattle.parser.proofs.types.unit_fields.Goals as goal
 
-pub close-requires-clause-small : goal.close-requires-clause-small
-close-requires-clause-small c = small-inside _ _ c.inside.ensures
-
-pub returns : goal.returns
-returns c = bare-read _ _ _ _ _ _ _ _ _ c.close.ensures c.inside.ensures (nothing_read _ _)
+pub returns-clause-reads : goal.returns-clause-reads
+returns-clause-reads c = bare_read (rw c.plain.ensures at c.close.ensures) c.inside.ensures (nothing_read _ _)

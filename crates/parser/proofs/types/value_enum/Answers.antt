@@ -1,20 +1,22 @@
-use native.Mathlib.Omega.{arith}
-use Rattle.steps.proofs.MetLaws.{chain, token, node-read}
-use Rattle.steps.proofs.SizeLaws.{near-ready, small-after, small-moved, ready-inside, ready_token_less, ready-token, word_kinded, lparen_kinded}
-use Rattle.parser.proofs.TypeLaws.{variants_steady}
+use Rattle.std.proofs.Common.{arith, sym, refl, ap, ◌∙◌, ◌+◌, []}
+use Rattle.tokens.specs.Token.{is_rparen}
+use Rattle.tokens.specs.Input.{peek, size}
+use Rattle.steps.specs.Met.{seen}
+use Rattle.steps.proofs.MetLaws.{◌▷◌, stop, moved, exit, node_read, node_stopped, flagged_read, flagged_stopped, bare_read, bare_stopped, nothing_read, next_yes, next_no, second_yes, second_no, leaf_read, bounded_within, within_less}
+use Rattle.steps.proofs.RowLaws.{plain_row}
 use Rattle.parser.proofs.types.value_enum.Goals as goal
 
-pub inside-requires : goal.inside-requires
-inside-requires c = search near-ready
+pub returns-in_err-open-clause-reads : goal.returns-in_err-open-clause-reads
+returns-in_err-open-clause-reads c = exit c.from_residual.ensures (node_stopped _ _ _ c.inside.ensures (stop _ (stop _ (stop _ ((moved c.in_err-open.ensures.reads))))))
 
-pub variant_row-variants-requires : goal.variant_row-variants-requires
-variant_row-variants-requires c = (ready_token_less 4 3 (omega arith) (omega arith) _ _ _ _ _ _ c.expect_word-word.ensures (word_kinded _ _) (ready-token _ _ _ _ _ _ _ c.expect_lparen-open.ensures lparen_kinded (ready-inside 3 4 (omega arith) (omega arith) _ _ _ c.inside.ensures c.requires)))
+pub returns-in_err-word-clause-reads : goal.returns-in_err-word-clause-reads
+returns-in_err-word-clause-reads c = exit c.from_residual-in_err-word.ensures (node_stopped _ _ _ c.inside.ensures (stop _ (stop _ ((moved c.in_ok-open.ensures.reads) ▷ (moved c.in_err-word.ensures.reads)))))
 
-pub close_at-requires-clause-near : goal.close_at-requires-clause-near
-close_at-requires-clause-near c = search near-ready
+pub returns-in_err-variants-clause-reads : goal.returns-in_err-variants-clause-reads
+returns-in_err-variants-clause-reads c = exit c.from_residual-in_err-variants.ensures (node_stopped _ _ _ c.inside.ensures (stop _ ((moved c.in_ok-open.ensures.reads) ▷ (moved c.in_ok-word.ensures.reads) ▷ c.in_err-variants.ensures.reads)))
 
-pub close_at-requires-clause-small : goal.close_at-requires-clause-small
-close_at-requires-clause-small c = small-moved _ _ _ _ _ c.expect_rparen-q.ensures (small-after 3 _ _ _ _ _ _ _ _ c.variant_row-variants.ensures c.requires (variants_steady _) (ready_token_less 4 3 (omega arith) (omega arith) _ _ _ _ _ _ c.expect_word-word.ensures (word_kinded _ _) (ready-token _ _ _ _ _ _ _ c.expect_lparen-open.ensures lparen_kinded (ready-inside 3 4 (omega arith) (omega arith) _ _ _ c.inside.ensures c.requires))))
+pub returns-in_err-q-clause-reads : goal.returns-in_err-q-clause-reads
+returns-in_err-q-clause-reads c = exit c.from_residual-in_err-q.ensures (node_stopped _ _ _ c.inside.ensures ((moved c.in_ok-open.ensures.reads) ▷ (moved c.in_ok-word.ensures.reads) ▷ c.in_ok-variants.ensures.reads ▷ (moved c.in_err-q.ensures.reads)))
 
-pub returns : goal.returns
-returns c = node-read _ _ _ _ _ _ _ _ _ _ _ _ _ c.close_at.ensures c.inside.ensures (chain _ _ _ _ _ _ _ _ (token _ _ _ _ _ _ c.expect_rparen-q.ensures) (chain _ _ _ _ _ _ _ _ c.variant_row-variants.ensures (chain _ _ _ _ _ _ _ _ (token _ _ _ _ _ _ c.expect_word-word.ensures) (token _ _ _ _ _ _ c.expect_lparen-open.ensures))))
+pub returns-clause-reads : goal.returns-clause-reads
+returns-clause-reads c = node_read _ c.close_at.ensures c.inside.ensures ((moved c.in_ok-open.ensures.reads) ▷ (moved c.in_ok-word.ensures.reads) ▷ c.in_ok-variants.ensures.reads ▷ (moved c.in_ok-q.ensures.reads))
