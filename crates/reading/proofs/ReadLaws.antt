@@ -16,17 +16,17 @@ use Rattle.records.specs.Result.{accepted, refused}
 use Rattle.records.proofs.BackLaws.{writes-cleared}
 use Rattle.tokens.specs.Token.{token_count}
 use Rattle.tokens.specs.Lent.{first_bad}
-use Rattle.tokens.specs.Input.{Input, input}
-use Rattle.steps.specs.declared.Refusal.{Refusal}
-use Rattle.steps.specs.declared.Parsed.{Parsed}
-use Rattle.steps.specs.declared.Parsed.TheVariants.{Accepted, Refused}
+use Rattle.tokens.specs.Input.{Input, input, size}
+use Rattle.std.specs.Prelude.{Result, Ok, Err}
+use Rattle.std.specs.Result.{IfOk}
+use Rattle.std.proofs.lemmas.Result.{IfOk-at_ok}
+use Rattle.records.specs.Grounds.{number as ground_number}
+use Rattle.steps.specs.declared.State.{State}
+use Rattle.steps.specs.declared.Stop.{Stop}
 use Rattle.steps.specs.Outcome.{Outcome, accept, refuse}
-use Rattle.steps.specs.Met.{number_of, Met, Chained, Ready}
-use Rattle.steps.proofs.SizeLaws.{ready-after}
-use Rattle.steps.proofs.StepLaws.{ready_at}
+use Rattle.steps.specs.Met.{state, number_of, Met, Chained, Ready, Within}
 use Rattle.parser.specs.Defs.{parse_defs}
 use Rattle.parser.specs.Reading.{done, stopped, fitted, judged, reading, number, bytes}
-use Rattle.parser.proofs.DefLaws.{defs_steady}
 use Rattle.reading.specs.Answered.{Answered, cleared, Finished, Countable}
 
 pub stops : (code place r : ℕ) (l l' : List ℕ) → l' ≡ replicate (length l) 0 → r ≡ refused code place → Answered (stopped code place) (length l) l' r
@@ -35,35 +35,34 @@ stops code place r l l' a b = record { returns = b; output = a }
 
 -- ---- settling
 
-pub settle-full : (n r : ℕ) (l l' : List ℕ) → length l / 24 < n → Answered (stopped 6 0) (length l) l' r → Finished (Accepted 0 n 0) l l' r
+pub settle-full : (n r : ℕ) (l l' : List ℕ) → length l / 24 < n → Answered (stopped 6 0) (length l) l' r → Finished (Ok (state 0 n 0)) l l' r
 unfolding number bytes number_of cleared
 settle-full n r l l' h a = record { returns = rw (lt-leb n (length l / 24) h) a.returns; output = rw (lt-leb n (length l / 24) h) a.output }
 
-pub settle-kept : (n r : ℕ) (l l' : List ℕ) → n ≤ length l / 24 → l' ≡ take (n * 24) l ++ replicate (length l - n * 24) 0 → r ≡ accepted n → Finished (Accepted 0 n 0) l l' r
+pub settle-kept : (n r : ℕ) (l l' : List ℕ) → n ≤ length l / 24 → l' ≡ take (n * 24) l ++ replicate (length l - n * 24) 0 → r ≡ accepted n → Finished (Ok (state 0 n 0)) l l' r
 unfolding number_of cleared
 settle-kept n r l l' h a b = record { returns = rw (le-leb n (length l / 24) h) b; output = rw (le-leb n (length l / 24) h) a }
 
 -- ---- the end, which looks at the count alone
 
-pub finish_refused : (p : Parsed) (e : Refusal) (r : ℕ) (l l' : List ℕ) → p ≡ Refused e → Answered (stopped e.code e.place) (length l) l' r → Finished p l l' r
+pub finish_refused : (d : Stop) (r : ℕ) (l l' : List ℕ) → Answered (stopped (ground_number d.why) d.place) (length l) l' r → Finished (Err d) l l' r
 unfolding number bytes number_of cleared
-finish_refused p e r l l' f a = rw f (record { returns = a.returns; output = a.output })
+finish_refused d r l l' a = record { returns = a.returns; output = a.output }
 
-pub finish_settled : (p : Parsed) (j n k r : ℕ) (l l' : List ℕ) → p ≡ Accepted j n k → Finished (Accepted 0 n 0) l l' r → Finished p l l' r
+pub finish_settled : (q : State) (r : ℕ) (l l' : List ℕ) → Finished (Ok (state 0 q.count 0)) l l' r → Finished (Ok q) l l' r
 unfolding number_of cleared
-finish_settled p j n k r l l' f t = rw f (record { returns = t.returns; output = t.output })
+finish_settled q r l l' t = record { returns = t.returns; output = t.output }
 
-pub countable-count : (p : Parsed) (j n k : ℕ) → p ≡ Accepted j n k → Countable p → n < 16777216
+pub countable_count : (q : State) → Countable (Ok q) → q.count < 16777216
 unfolding Countable
-countable-count p j n k f c = rw f at c
+countable_count q c = c
 
 -- ---- good tokens
 
-pub begins : (tokens text : List ℕ) (end : ℕ) → token_count tokens ≤ 16385 → length text ≤ 65536 → Ready 3 (input tokens text end) (Accepted 0 0 0)
-unfolding Ready
-begins tokens text end a b = record { few = a; short = b; here = omega arith; room = omega arith; kids = omega arith; slack = omega arith }
+pub begins : (s : Input) → size s ≤ 16385 → length s.text ≤ 65536 → Ready 4 s (state 0 0 0)
+begins s a b = record { few = a; short = b; here = omega arith; room = omega arith; kids = omega arith; slack = omega arith }
 
-fits_by : (ts : Trees) (n r : ℕ) (l l₁ l₂ : List ℕ) → n ≡ length (records_all ts) → length l₁ ≡ length l → l₁ ≡ writes l 0 (records_all ts) → (j k : ℕ) → Finished (Accepted j n k) l₁ l₂ r → (b : Bool) → leb n (slots l) ≡ b
+fits_by : (ts : Trees) (n r : ℕ) (l l₁ l₂ : List ℕ) → n ≡ length (records_all ts) → length l₁ ≡ length l → l₁ ≡ writes l 0 (records_all ts) → (j k : ℕ) → Finished (Ok (state j n k)) l₁ l₂ r → (b : Bool) → leb n (slots l) ≡ b
     → Answered (pick (leb (length (records_all ts)) (slots l)) (done ts) (stopped 6 0)) (length l) l₂ r
 unfolding number bytes number_of cleared
 fits_by ts n r l l₁ l₂ c z w j k t true e =
@@ -77,25 +76,21 @@ fits_by ts n r l l₁ l₂ c z w j k t false e =
     let y : leb n (slots l₁) ≡ false = ap (λ (x : ℕ). leb n (x / 24)) z ∙ e in
     rw (← c, e) (record { returns = t.returns ∙ rw y; output = t.output ∙ rw (y, z) })
 
--- what finishing the state leaves is what the outcome leaves
-pub met_finished : (o : Outcome) (p : Parsed) (r : ℕ) (l l₁ l₂ : List ℕ) → Met o 0 0 l l₁ p → length l₁ ≡ length l → Finished p l₁ l₂ r → Answered (fitted (slots l) o) (length l) l₂ r
+-- what finishing leaves is what the outcome leaves
+pub met_finished : (o : Outcome) (p : Result State Stop) (r : ℕ) (l l₁ l₂ : List ℕ) → Met o 0 0 l l₁ p → length l₁ ≡ length l → Finished p l₁ l₂ r → Answered (fitted (slots l) o) (length l) l₂ r
 unfolding Met fitted number bytes number_of cleared
-met_finished (accept ts x) (Accepted j n k) r l l₁ l₂ h z t = fits_by ts n r l l₁ l₂ (omega (arith, h.counted)) z h.wrote j k t (leb n (slots l)) refl
-met_finished (accept ts x) (Refused e) r l l₁ l₂ h z t = absurd h
-met_finished (refuse d) (Accepted j n k) r l l₁ l₂ h z t = absurd h
-met_finished (refuse d) (Refused e) r l l₁ l₂ h z t = rw (← h, ← z) (record { returns = t.returns; output = t.output })
+met_finished (accept ts x) (Ok q) r l l₁ l₂ h z t = fits_by ts q.count r l l₁ l₂ (omega (arith, h.counted)) z h.wrote q.next q.items t (leb q.count (slots l)) refl
+met_finished (accept ts x) (Err e) r l l₁ l₂ h z t = absurd h
+met_finished (refuse d) (Ok q) r l l₁ l₂ h z t = absurd h
+met_finished (refuse d) (Err e) r l l₁ l₂ h z t = rw (← h, ← z) (record { returns = t.returns; output = t.output })
 
-pub good-finished : (s : Input) (p : Parsed) (r : ℕ) (l l₁ l₂ : List ℕ) → Chained (parse_defs s) (Accepted 0 0 0) l l₁ p → length l₁ ≡ length l → Finished p l₁ l₂ r → Answered (fitted (slots l) (parse_defs s 0)) (length l) l₂ r
-unfolding Chained
-good-finished s p r l l₁ l₂ h z t = met_finished (parse_defs s 0) p r l l₁ l₂ h z t
+pub good_finished : (s : Input) (p : Result State Stop) (r : ℕ) (l l₁ l₂ : List ℕ) → Chained (parse_defs s) (state 0 0 0) l l₁ p → length l₁ ≡ length l → Finished p l₁ l₂ r → Answered (fitted (slots l) (parse_defs s 0)) (length l) l₂ r
+good_finished s p r l l₁ l₂ h z t = met_finished (parse_defs s 0) p r l l₁ l₂ h.met z t
 
-pub good-countable : (tokens text : List ℕ) (end : ℕ) (p : Parsed) (l l₁ : List ℕ) → Chained (parse_defs (input tokens text end)) (Accepted 0 0 0) l l₁ p → token_count tokens ≤ 16385 → length text ≤ 65536 → Countable p
+pub good_countable : (s : Input) (p : Result State Stop) → size s ≤ 16385 → IfOk p (Within 0 0 0 s (state 0 0 0)) → Countable p
 unfolding Countable
-good-countable tokens text end (Refused e) l l₁ h a b = tt
-good-countable tokens text end (Accepted j n k) l l₁ h a b =
-    let s = input tokens text end in
-    let w = ready_at 3 s (Accepted j n k) j n k (ready-after (parse_defs s) (Accepted 0 0 0) l l₁ (Accepted j n k) 3 s h (defs_steady s) (begins tokens text end a b)) refl in
-    omega (arith, w.few, w.here, w.room)
+good_countable s (Ok q) a w = omega (arith, a, w.inside (omega arith), w.room)
+good_countable s (Err d) a w = tt
 
 -- ---- the checks
 

@@ -1,12 +1,11 @@
-use Rattle.reading.proofs.ReadLaws.{finish_refused, finish_settled, countable-count}
-use borrow.Author.Rules.{rules}
+use Rattle.reading.proofs.ReadLaws.{finish_refused, finish_settled, countable_count}
 use Rattle.reading.proofs.finish.Goals as goal
 
-pub returns-in-Refused : goal.returns-in-Refused
-returns-in-Refused c = search (finish_refused, rules)
-
 pub settle-requires : goal.settle-requires
-settle-requires c = search countable-count
+settle-requires c = countable_count _ (rw c.in-Ok.is at c.requires)
 
-pub returns-in-Accepted : goal.returns-in-Accepted
-returns-in-Accepted c = search finish_settled
+pub returns-in-Ok : goal.returns-in-Ok
+returns-in-Ok c = rw c.in-Ok.is (finish_settled _ _ _ _ c.settle.ensures)
+
+pub returns-in-Err : goal.returns-in-Err
+returns-in-Err c = rw c.in-Err.is (finish_refused _ _ _ _ c.refuse.ensures)
