@@ -15,25 +15,30 @@ use Rattle.records.specs.Slots.{slots, writes}
 use Rattle.records.proofs.Laws.{length-writes}
 use Rattle.records.proofs.BackLaws.{bytes_all, writes_front}
 use Rattle.tokens.specs.declared.Token.{Token}
-use Rattle.tokens.specs.Token.{token_count, token_at, is_refused, is_too_many}
+use Rattle.tokens.specs.Token.{token_count, is_refused, is_too_many}
 use Rattle.tokens.specs.Lent.{ascii}
-use Rattle.tokens.specs.Input.{Input, input}
-use Rattle.steps.specs.declared.Refusal.{Refusal}
-use Rattle.steps.specs.declared.Parsed.{Parsed}
-use Rattle.steps.specs.declared.Parsed.TheVariants.{Accepted, Refused}
+use Rattle.tokens.specs.Input.{Input, input, peek, size}
+use Rattle.std.specs.Prelude.{Result, Ok, Err}
+use Rattle.std.specs.Result.{IfOk}
+use Rattle.records.specs.declared.Ground.{Ground}
+use Rattle.records.specs.declared.Ground.TheVariants.{TooMuch, NotAToken, RuleName}
+use Rattle.records.specs.Grounds.{number}
+use Rattle.records.proofs.GroundLaws.{rule_name_number}
+use Rattle.steps.specs.declared.State.{State}
+use Rattle.steps.specs.declared.Stop.{Stop}
 use Rattle.steps.specs.Outcome.{Outcome, accept, refuse, refusal}
-use Rattle.steps.specs.Met.{Met, Chained}
+use Rattle.steps.specs.Met.{told, state, Met, Chained, Within}
 use Rattle.parser.specs.Defs.{parse_defs}
 use Rattle.parser.specs.Reading.{stopped, fitted}
 use Rattle.reading.specs.Answered.{Answered, Finished, Countable}
-use Rattle.reading.proofs.ReadLaws.{met_finished, good-countable}
+use Rattle.reading.proofs.ReadLaws.{met_finished, good_countable}
 use Rattle.lexer.specs.Lexer.{token, run_end}
 use Rattle.lexer.specs.Gaps.{RunTo}
 use Rattle.lexer.specs.Text.{lexed, Stops, at-end, refused, too_many, records_of, Wrote}
 use Rattle.lexer.proofs.GapLaws.{Run, run_on, run_stop}
 use Rattle.lexer.proofs.RunLaws.{stops, length-lexed}
 use Rattle.texts.specs.TextReading.{token_bytes, foremost, looked_ahead, parse_text, is_ascii, text_reading}
-use Rattle.texts.specs.Looked.{looked}
+use Rattle.texts.specs.Looked.{Looked}
 
 -- ---- bytes above 127
 
@@ -47,57 +52,54 @@ high-here text i q h k = run_stop is_ascii text 0 i q false h (sym (le-ltb (get_
 
 -- ---- a refusal
 
-module _ (tokens : List ℕ) (end : ℕ) (e : Refusal) (t : Token) (a b : Bool) (p : t ≡ token_at tokens end e.taken) where
-  pub foremost-many : a ≡ is_too_many t → a ≡ true → refusal 7 0 e.taken ≡ foremost (token_at tokens end e.taken) e
+module _ (s : Input) (d : Stop) (t : Token) (a b : Bool) (p : t ≡ peek s d.taken) where
+  pub foremost_many : a ≡ is_too_many t → a ≡ true → told (record { why = TooMuch; place = 0; taken = d.taken }) ≡ foremost (peek s d.taken) (told d)
   unfolding foremost
-  foremost-many x y = rw (← p, ← x, y)
+  foremost_many x y = rw (← p, ← x, y)
 
-  pub foremost-none : a ≡ is_too_many t → a ≡ false → b ≡ is_refused t → b ≡ false → e ≡ foremost (token_at tokens end e.taken) e
+  pub foremost_none : a ≡ is_too_many t → a ≡ false → b ≡ is_refused t → b ≡ false → told d ≡ foremost (peek s d.taken) (told d)
   unfolding foremost
-  foremost-none x y u v = rw (← p, ← x, y, ← u, v)
+  foremost_none x y u v = rw (← p, ← x, y, ← u, v)
 
-  pub foremost-name : a ≡ is_too_many t → a ≡ false → b ≡ is_refused t → b ≡ true → e.code ≡ 23 → e ≡ foremost (token_at tokens end e.taken) e
+  pub foremost_name : a ≡ is_too_many t → a ≡ false → b ≡ is_refused t → b ≡ true → d.why ≡ RuleName → told d ≡ foremost (peek s d.taken) (told d)
   unfolding foremost
-  foremost-name x y u v w = rw (← p, ← x, y, ← u, v, eq-eqb e.code 23 w)
+  foremost_name x y u v w = let z : number d.why ≡ 23 = ap number w in rw (← p, ← x, y, ← u, v, eq-eqb (number d.why) 23 z)
 
-  pub foremost-refused : a ≡ is_too_many t → a ≡ false → b ≡ is_refused t → b ≡ true → (e.code ≡ 23 → ⊥) → refusal 40 t.pos e.taken ≡ foremost (token_at tokens end e.taken) e
+  pub foremost_refused : a ≡ is_too_many t → a ≡ false → b ≡ is_refused t → b ≡ true → (d.why ≡ RuleName → ⊥) → told (record { why = NotAToken; place = t.pos; taken = d.taken }) ≡ foremost (peek s d.taken) (told d)
   unfolding foremost
-  foremost-refused x y u v w = rw (← p, ← x, y, ← u, v, ne_eqb e.code 23 w)
+  foremost_refused x y u v w =
+      let z : number d.why ≡ 23 → ⊥ = λ h. w (rule_name_number d.why h) in
+      rw (← p, ← x, y, ← u, v, ne_eqb (number d.why) 23 z)
 
-pub looked-refused : (tokens : List ℕ) (end : ℕ) (p : Parsed) (e d : Refusal) → p ≡ Refused e → d ≡ foremost (token_at tokens end e.taken) e → Refused d ≡ looked tokens end p
-unfolding looked
-looked-refused tokens end p e d f g = rw (f, g)
+pub looked_ok : (s : Input) (q : State) → Looked s (Ok q) (Ok q)
+unfolding Looked
+looked_ok s q = refl
 
-pub looked-accepted : (tokens : List ℕ) (end : ℕ) (p : Parsed) (i n k : ℕ) → p ≡ Accepted i n k → Accepted i n k ≡ looked tokens end p
-unfolding looked
-looked-accepted tokens end p i n k f = rw f
+pub looked_err : (s : Input) (d x : Stop) → told x ≡ foremost (peek s d.taken) (told d) → Looked s (Err d) (Err x)
+unfolding Looked
+looked_err s d x e = e
 
 -- ---- the lexer's tokens
 
-looked_met : (tokens text : List ℕ) (end : ℕ) (o : Outcome) (p : Parsed) (l l₁ : List ℕ) → Met o 0 0 l l₁ p → Met (looked_ahead (input tokens text end) o) 0 0 l l₁ (looked tokens end p)
-unfolding Met looked_ahead looked
-looked_met tokens text end (accept ts j) (Accepted i n k) l l₁ h = h
-looked_met tokens text end (accept ts j) (Refused e) l l₁ h = absurd h
-looked_met tokens text end (refuse d) (Accepted i n k) l l₁ h = absurd h
-looked_met tokens text end (refuse d) (Refused e) l l₁ h = rw h
+looked_met : (s : Input) (o : Outcome) (p r : Result State Stop) (l l₁ : List ℕ) → Looked s p r → Met o 0 0 l l₁ p → Met (looked_ahead s o) 0 0 l l₁ r
+unfolding Met looked_ahead Looked
+looked_met s (accept ts j) (Ok q) r l l₁ e h = rw e h
+looked_met s (accept ts j) (Err d) r l l₁ e h = absurd h
+looked_met s (refuse x) (Ok q) r l l₁ e h = absurd h
+looked_met s (refuse x) (Err d) (Ok q) l l₁ e h = absurd e
+looked_met s (refuse x) (Err d) (Err y) l l₁ e h = e ∙ rw (← h)
 
-looked-countable : (tokens : List ℕ) (end : ℕ) (p : Parsed) → Countable p → Countable (looked tokens end p)
-unfolding Countable looked
-looked-countable tokens end (Accepted i n k) h = h
-looked-countable tokens end (Refused e) h = tt
+pub looked_countable : (s : Input) (p r : Result State Stop) → Looked s p r → Countable p → Countable r
+unfolding Countable Looked
+looked_countable s (Ok q) r e h = rw e h
+looked_countable s (Err d) (Ok q) e h = absurd e
+looked_countable s (Err d) (Err x) e h = tt
 
-pub lexed-countable : (tokens text : List ℕ) (end : ℕ) (p q : Parsed) (l l₁ : List ℕ) → Chained (parse_defs (input tokens text end)) (Accepted 0 0 0) l l₁ p → token_count tokens ≤ 16385 → length text ≤ 65536 → q ≡ looked tokens end p → Countable q
-lexed-countable tokens text end p q l l₁ h a b f = rw f (looked-countable tokens end p (good-countable tokens text end p l l₁ h a b))
+pub lexed_countable : (s : Input) (p r : Result State Stop) → size s ≤ 16385 → IfOk p (Within 0 0 0 s (state 0 0 0)) → Looked s p r → Countable r
+lexed_countable s p r a w e = looked_countable s p r e (good_countable s p a w)
 
-at_first : (s : Input) (p : Parsed) (l l' : List ℕ) → Chained (parse_defs s) (Accepted 0 0 0) l l' p → Met (parse_defs s 0) 0 0 l l' p
-unfolding Chained
-at_first s p l l' h = h
-
-pub lexed-finished : (tokens text : List ℕ) (end : ℕ) (p q : Parsed) (r : ℕ) (l l₁ l₂ : List ℕ) → Chained (parse_defs (input tokens text end)) (Accepted 0 0 0) l l₁ p → length l₁ ≡ length l → q ≡ looked tokens end p → Finished q l₁ l₂ r
-    → Answered (fitted (slots l) (looked_ahead (input tokens text end) (parse_defs (input tokens text end) 0))) (length l) l₂ r
-lexed-finished tokens text end p q r l l₁ l₂ h z f t =
-    let s = input tokens text end in
-    met_finished (looked_ahead s (parse_defs s 0)) (looked tokens end p) r l l₁ l₂ (looked_met tokens text end (parse_defs s 0) p l l₁ (at_first s p l l₁ h)) z (rw f at t)
+pub lexed_finished : (s : Input) (p q : Result State Stop) (r : ℕ) (l l₁ l₂ : List ℕ) → Chained (parse_defs s) (state 0 0 0) l l₁ p → length l₁ ≡ length l → Looked s p q → Finished q l₁ l₂ r → Answered (fitted (slots l) (looked_ahead s (parse_defs s 0))) (length l) l₂ r
+lexed_finished s p q r l l₁ l₂ h z f t = met_finished (looked_ahead s (parse_defs s 0)) q r l l₁ l₂ (looked_met s (parse_defs s 0) p q l l₁ f h.met) z t
 
 -- ---- the table
 
@@ -153,20 +155,11 @@ module _ (text l l' : List ℕ) (n : ℕ) (w : Wrote (lexed text) 0 l l' n) wher
   within-is space m r o z a = rw (front_is z) at a
 
 -- a table of m bytes has space for a text of m / 24 bytes, and for 16,385 tokens of any text
-short-table : (text : List ℕ) (m : ℕ) → length text ≤ m / 24 → length (lexed text) ≤ slots (replicate m 0)
-short-table text m h = let z : length {A = ℕ} (replicate m 0) ≡ m = length-replicate {A = ℕ} m 0 in rw z (omega (arith, length-lexed text))
+pub short_table : (text : List ℕ) (m : ℕ) → length text ≤ m / 24 → length (lexed text) ≤ m / 24
+short_table text m h = omega (arith, length-lexed text)
 
-pub table_256 : (text : List ℕ) → length text ≤ 256 → length (lexed text) ≤ slots (replicate 6144 0)
-table_256 text = short-table text 6144
-
-pub table_1024 : (text : List ℕ) → length text ≤ 1024 → length (lexed text) ≤ slots (replicate 24576 0)
-table_1024 text = short-table text 24576
-
-pub table_4096 : (text : List ℕ) → length text ≤ 4096 → length (lexed text) ≤ slots (replicate 98304 0)
-table_4096 text = short-table text 98304
-
-pub table_65536 : (text : List ℕ) → length (lexed text) ≤ slots (replicate 393240 0)
-table_65536 text = let z : length {A = ℕ} (replicate 393240 0) ≡ 393240 = length-replicate {A = ℕ} 393240 0 in omega (arith, few text)
+pub long_table : (text : List ℕ) → length (lexed text) ≤ 393240 / 24
+long_table text = omega (arith, few text)
 
 -- ---- the checks
 

@@ -1,10 +1,12 @@
--- What the code promises of a state in which the parser ends: a refusal gives way to what stops the lexer.
-use Rattle.std.specs.Prelude.{ℕ, List}
-use Rattle.tokens.specs.Token.{token_at}
-use Rattle.steps.specs.declared.Parsed.{Parsed}
-use Rattle.steps.specs.declared.Parsed.TheVariants.{Accepted, Refused}
+-- What the code promises of the end of the parser: a refusal gives way to what stops the lexer.
+use Rattle.std.specs.Prelude.{ℕ, ◌≡◌, Result, Ok, Err}
+use Rattle.tokens.specs.Input.{Input, peek}
+use Rattle.steps.specs.declared.State.{State}
+use Rattle.steps.specs.declared.Stop.{Stop}
+use Rattle.steps.specs.Met.{told}
 use Rattle.texts.specs.TextReading.{foremost}
 
-unfoldable pub looked : List ℕ → ℕ → Parsed → Parsed
-looked tokens end (Accepted i n k) = Accepted i n k
-looked tokens end (Refused e) = Refused (foremost (token_at tokens end e.taken) e)
+unfoldable pub Looked : Input → Result State Stop → Result State Stop → Type 0
+Looked s (Ok q) r = r ≡ Ok q
+Looked s (Err d) (Ok q) = ⊥
+Looked s (Err d) (Err x) = told x ≡ foremost (peek s d.taken) (told d)

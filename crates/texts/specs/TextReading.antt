@@ -5,8 +5,7 @@ use Rattle.records.specs.Slots.{writes}
 use Rattle.tokens.specs.declared.Token.{Token}
 use Rattle.tokens.specs.Token.{is_refused, is_too_many}
 use Rattle.tokens.specs.Input.{Input, input, peek}
-use Rattle.steps.specs.declared.Refusal.{Refusal}
-use Rattle.steps.specs.Outcome.{Outcome, accept, refuse, refusal}
+use Rattle.steps.specs.Outcome.{Outcome, Refusal, accept, refuse, refusal}
 use Rattle.parser.specs.Defs.{parse_defs}
 use Rattle.parser.specs.Reading.{Reading, stopped, fitted}
 use Rattle.lexer.specs.Lexer.{run_end}

@@ -1,11 +1,6 @@
-use Prim.Native.Nat.{◌-◌}
-use lib.ListN.{length}
 use Rattle.lexer.proofs.GapLaws.{Run}
 use Rattle.texts.specs.TextReading.{is_ascii}
 use Rattle.texts.proofs.first_high.Given as goal
 
 abbrev pub invariant-loop-i : goal.invariant-loop-i
 invariant-loop-i l = Run is_ascii l.text 0 l.i
-
-abbrev pub decreases-loop-i : goal.decreases-loop-i
-decreases-loop-i l = length l.text - l.i

@@ -1,8 +1,8 @@
-use Rattle.texts.proofs.ReadLaws.{looked-refused, looked-accepted}
+use Rattle.texts.proofs.ReadLaws.{looked_ok, looked_err}
 use Rattle.texts.proofs.looked.Goals as goal
 
-pub returns-in-Refused : goal.returns-in-Refused
-returns-in-Refused c = search looked-refused
+pub returns-in-Ok : goal.returns-in-Ok
+returns-in-Ok c = rw c.in-Ok.is (looked_ok _ _)
 
-pub returns-in-Accepted : goal.returns-in-Accepted
-returns-in-Accepted c = search looked-accepted
+pub returns-in-Err : goal.returns-in-Err
+returns-in-Err c = rw c.in-Err.is (looked_err _ _ _ c.foremost.ensures)

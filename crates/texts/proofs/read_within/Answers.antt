@@ -1,18 +1,8 @@
-use Rattle.texts.proofs.ReadLaws.{lexed-fits, lexed-there, lexed-long, lexed-count, within-is}
-use borrow.Author.Rules.{rules}
+use Rattle.texts.proofs.ReadLaws.{lexed-count, within-is}
 use Rattle.texts.proofs.read_within.Goals as goal
 
-pub overflow_mul-n : goal.overflow_mul-n
-overflow_mul-n c = search lexed-fits
-
-pub slice_bounds-read_lexed-end : goal.slice_bounds-read_lexed-end
-slice_bounds-read_lexed-end c = search lexed-there
-
-pub slice_bounds-read_lexed-end-2 : goal.slice_bounds-read_lexed-end-2
-slice_bounds-read_lexed-end-2 c = search lexed-long
-
-pub read_lexed-requires : goal.read_lexed-requires
-read_lexed-requires c = search (lexed-count, rules)
+pub read_lexed-requires-clause-few : goal.read_lexed-requires-clause-few
+read_lexed-requires-clause-few c = lexed-count _ _ _ _ c.lex-n.ensures c.requires.room
 
 pub returns : goal.returns
-returns c = search within-is
+returns c = within-is _ _ _ _ c.lex-n.ensures _ _ _ _ c.requires.room c.read_lexed.ensures

@@ -1,5 +1,0 @@
-use Rattle.texts.proofs.ReadLaws.{table_256}
-use Rattle.texts.proofs.read_256.Goals as goal
-
-pub read_within-requires-clause-text_len_bound_2 : goal.read_within-requires-clause-text_len_bound_2
-read_within-requires-clause-text_len_bound_2 c = table_256 _ c.requires

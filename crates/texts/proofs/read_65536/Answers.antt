@@ -1,5 +1,0 @@
-use Rattle.texts.proofs.ReadLaws.{table_65536}
-use Rattle.texts.proofs.read_65536.Goals as goal
-
-pub read_within-requires-clause-text_len_bound_2 : goal.read_within-requires-clause-text_len_bound_2
-read_within-requires-clause-text_len_bound_2 c = table_65536 _
