@@ -13,7 +13,7 @@ use Rattle.trees.specs.declared.Head.{Head}
 use Rattle.trees.proofs.Laws.{⧺-none}
 use Rattle.tokens.specs.declared.Token.{Token}
 use Rattle.tokens.specs.Input.{Input, peek, pos_at}
-use Rattle.steps.specs.declared.Refusal.{Refusal}
+use Rattle.steps.specs.Outcome.{Refusal}
 use Rattle.grammar.specs.Lexical.{Symbol}
 use Rattle.steps.specs.Outcome.{Outcome, accept, refuse, Reader, refusal, before, and_then, ◌⊳◌, node_of, parent, flagged, bare, leaf, nothing, refuse_from, refuse_at, refuse_after, if_next, if_second, unexpected, then_at, items_from, many_at, many, expect_at}
 

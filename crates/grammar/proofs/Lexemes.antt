@@ -17,7 +17,7 @@ use Rattle.tokens.specs.Token.{is_lparen, is_rparen, is_symbol, is_int, is_at, i
 use Rattle.tokens.specs.Ident.{starts, all_go_on, ident_refusal}
 use Rattle.tokens.specs.Input.{Input, peek, pos_at, size}
 use Rattle.tokens.proofs.TokenLaws.{kind-inside}
-use Rattle.steps.specs.declared.Refusal.{Refusal}
+use Rattle.steps.specs.Outcome.{Refusal}
 use Rattle.steps.specs.Outcome.{accept, refuse, refusal, unexpected, expect-lparen, expect-rparen, expect-at, expect-word, ident_at, name_by, parse_ident, const_refusal, parse_const, refused_as}
 use Rattle.steps.proofs.NameLaws.{is-constant, constant-is}
 use Rattle.grammar.specs.Lexical.{Kind, Open, Close, Symbol, Integer, At, Word, spelling, Identifier, identifier, Name, Dollar, Constant, one, name_at, constant_at}

@@ -11,7 +11,7 @@ use Rattle.tokens.specs.declared.Token.{Token}
 use Rattle.tokens.specs.Token.{is_symbol, is_word}
 use Rattle.tokens.specs.Input.{Input, peek, pos_at, size}
 use Rattle.steps.specs.Keywords.{word_extern, word_nodebug}
-use Rattle.steps.specs.declared.Refusal.{Refusal}
+use Rattle.steps.specs.Outcome.{Refusal}
 use Rattle.steps.specs.Outcome.{accept, refuse, refusal, ate, eat}
 use Rattle.parser.specs.Types.{modifier_flags, modifiers_end, parse_modifiers}
 use Rattle.grammar.specs.Lexical.{Symbol, Word}

@@ -13,7 +13,7 @@ use Rattle.words.specs.Bytes.{same_bytes}
 use Rattle.tokens.specs.Token.{is_lparen, is_int, is_word}
 use Rattle.tokens.specs.Input.{Input, peek, pos_at, size}
 use Rattle.steps.specs.Keywords.{word_if, word_if_let}
-use Rattle.steps.specs.declared.Refusal.{Refusal}
+use Rattle.steps.specs.Outcome.{Refusal}
 use Rattle.steps.specs.Outcome.{accept, refuse, refusal, many}
 use Rattle.exprs.specs.Expr.{parse_iflet, parse_iflet_if, parse_iflet_or_expr, no_iflet}
 use Rattle.parser.specs.Defs.{rule_name, is_i64, rule_priority, rule_flags, rule_parts, parse_rule}

@@ -23,7 +23,7 @@ use Rattle.grammar.specs.Grammar.{Gram, definition, list, d_type, d_decl, d_attr
 use Rattle.grammar.specs.Depth.{deepest}
 use Rattle.grammar.specs.Nesting.{Deep}
 use Rattle.grammar.specs.Meaning.{GoodAt, GoodList, Derived, Accepted, Refused, Underived, too_much, cut_short, bad-token, too_deep, no_parse, no_space, Meaning, Worth, accepted, refused}
-use Rattle.steps.specs.declared.Refusal.{Refusal}
+use Rattle.steps.specs.Outcome.{Refusal}
 use Rattle.grammar.proofs.Exact.{Ground, deep, plain}
 use Rattle.grammar.proofs.Laws.{sizes-records, fit, spare, listed}
 use Rattle.grammar.proofs.Defs.{exact_defs, defs-within}

@@ -7,7 +7,7 @@ use Rattle.words.specs.Words.{half_at, word_at, be4, be8}
 use Rattle.words.specs.Bytes.{same_bytes}
 use Rattle.tokens.specs.Token.{token_at, is_lparen, is_word}
 use Rattle.tokens.specs.Input.{peek}
-use Rattle.steps.specs.declared.Refusal.{Refusal}
+use Rattle.steps.specs.Outcome.{Refusal}
 use Rattle.steps.specs.Outcome.{refuse, refusal, before, and_then, ◌⊳◌, refuse_from, if_next, if_second, then_at, items_from, many_at, many, expect_at}
 use Rattle.exprs.specs.Examples.{tok, sym}
 use Rattle.parser.specs.Defs.{parse_extern, rest_def, parse_def, parse_defs}

@@ -12,7 +12,7 @@ use Rattle.trees.specs.Tree.{Trees, records_all}
 use Rattle.tokens.specs.declared.Token.{Token}
 use Rattle.tokens.specs.Token.{is_refused, is_too_many}
 use Rattle.tokens.specs.Input.{Input, peek, size}
-use Rattle.steps.specs.declared.Refusal.{Refusal}
+use Rattle.steps.specs.Outcome.{Refusal}
 use Rattle.steps.specs.Outcome.{Outcome, accept, refuse, refusal}
 use Rattle.parser.specs.Defs.{parse_defs}
 use Rattle.parser.specs.Reading.{Reading, done, stopped, fitted, number, bytes}

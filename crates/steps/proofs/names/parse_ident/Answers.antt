@@ -17,4 +17,4 @@ returns-clause-reads c = by_name (seen c.args.s.now) ident_refusal (λ w. w) c.a
 
 pub returns-clause-within : goal.returns-clause-within
 unfolding parse_ident
-returns-clause-within c = bounded_within (ident-bounded (seen c.args.s.now)) (by_name (seen c.args.s.now) ident_refusal (λ w. w) c.args.p c.in_ok-t.t _ _ _ (symbol_next _ _ _ c.in_ok-t.ensures) (symbol_is _ _ _ c.in_ok-t.ensures) c.put_name.ensures.reads)
+returns-clause-within c = bounded_within (ident-bounded (seen c.args.s.now)) (returns-clause-reads c)

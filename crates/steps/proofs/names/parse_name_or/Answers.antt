@@ -16,4 +16,4 @@ pub returns-clause-reads : goal.returns-clause-reads
 returns-clause-reads c = by_name (seen c.args.s.now) (refused_as (number c.args.why)) (λ w. w) c.args.p c.in_ok-t.t _ _ _ (symbol_next _ _ _ c.in_ok-t.ensures) (symbol_is _ _ _ c.in_ok-t.ensures) (c.put_ident.ensures.reads _ _ c.name_or.ensures)
 
 pub returns-clause-within : goal.returns-clause-within
-returns-clause-within c = bounded_within (other-bounded (seen c.args.s.now) _) (by_name (seen c.args.s.now) (refused_as (number c.args.why)) (λ w. w) c.args.p c.in_ok-t.t _ _ _ (symbol_next _ _ _ c.in_ok-t.ensures) (symbol_is _ _ _ c.in_ok-t.ensures) (c.put_ident.ensures.reads _ _ c.name_or.ensures))
+returns-clause-within c = bounded_within (other-bounded (seen c.args.s.now) _) (returns-clause-reads c)
