@@ -1,4 +1,4 @@
-use Rattle.lexer.proofs.IntegerLaws.{digits_are}
+use Rattle.lexer.proofs.LexLaws.{digits_are}
 use Rattle.lexer.proofs.integer.digits.Goals as goal
 
 pub returns : goal.returns
