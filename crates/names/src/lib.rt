@@ -4,3 +4,5 @@
 pub mod compare;
 pub mod lengths;
 pub mod order;
+pub mod row;
+pub mod seek;

@@ -1,12 +1,14 @@
-use Rattle.std.proofs.Common.{rules}
-use Rattle.names.proofs.Laws.{halving_start, halving_turn, halving_end}
+use Rattle.std.proofs.Common.{◌≡◌, ◌+◌, ◌/◌, arith}
+use Rattle.trees.specs.Choice.{pick}
+use Rattle.names.proofs.Laws.{halving_turn, halving_end}
 use Rattle.names.proofs.order.place.Goals as goal
-
-pub loop-left-init : goal.loop-left-init
-loop-left-init c = search halving_start
+use Rattle.names.proofs.order.place.Goals.{then-not-stands_before, else-not-stands_before}
 
 pub loop-left-preserved : goal.loop-left-preserved
-loop-left-preserved c = search halving_turn
+loop-left-preserved c =
+    let picked : c.if-not-stands_before.base ≡ pick c.stands_before.result c.loop-left.base (c.loop-left.base + c.loop-left.left / 2) =
+    elim c.if-not-stands_before.branch [ then-not-stands_before w ↦ grind arith | else-not-stands_before w ↦ grind arith ] in
+    halving_turn _ _ _ _ _ _ _ c.loop-left.invariant c.loop-left-test.true c.stands_before.ensures picked
 
-pub returns : goal.returns
-returns c = (search halving_end, search rules)
+pub returns-clause-by_halves : goal.returns-clause-by_halves
+returns-clause-by_halves c = search halving_end
