@@ -1,12 +1,11 @@
 // The first of a row of names that is the one sought, by an order of their numbers that is searched by halves. Nothing is proved of how the
 // order is made: it is tried with each name once, and that it leads each to the first of its kind is all that a search needs.
-ghost use Rattle.std.specs.Prelude.{◌≡◌, ◌+◌, ◌<◌, ◌≤◌, true, length, IsTrue, IfSome};
-ghost use Rattle.trees.specs.Choice.{pick};
+ghost use Rattle.std.specs.Prelude.{◌≡◌, ◌+◌, ◌<◌, ◌≤◌, length, IfSome};
 ghost use Rattle.trees.specs.Names.{spelled};
-ghost use Rattle.names.specs.Compare.{before};
-ghost use Rattle.names.specs.Order.{range_at, entry, ordered, place, led, marked, Leads, Checked, First, Ready};
+ghost use Rattle.names.specs.Order.{First, Ready};
 
 use crate::compare::{comes_before, same_name};
+use crate::places::{Places, is_marked};
 use crate::row::Names;
 use tokens::names::spelling;
 
@@ -18,70 +17,6 @@ pub struct Order<'a> {
     pub places: &'a [u32],
     pub marks: &'a [u8],
     pub ghost leads_to_first: { Ready names places.now marks.now },
-}
-
-// The number at place i of the order of n names.
-#[tactic(auto, using(crate::proofs::Laws::entry_in, crate::proofs::Laws::entry_out))]
-fn entry(places: &[u32], n: usize, i: usize) -> usize
-    requires some { 0 < n }
-    requires in_order { i < length places.now }
-    ensures number { result ≡ entry places.now n i }
-    ensures of_a_name { result < n }
-{
-    let k = places[i] as usize;
-    if k < n { k } else { 0 }
-}
-
-// Whether the name comes before that at place i of the order.
-#[tactic(auto, unfolding(crate::specs::Order::ordered))]
-fn stands_before(names: &Names, places: &[u32], i: usize, w: u64) -> bool
-    requires some { 0 < names.now.n }
-    requires in_order { i < length places.now }
-    ensures { result ≡ before (spelled names.now.text.now w) (ordered names.now places.now i) }
-{
-    let k = entry(places, names.n, i);
-    comes_before(names.text, w, names.range_at(k))
-}
-
-// The place of a name in the order.
-#[tactic(auto, using(crate::proofs::Laws::halving_start))]
-fn place(names: &Names, places: &[u32], w: u64) -> usize
-    requires some { 0 < length places.now }
-    requires few { length places.now ≤ names.now.n }
-    ensures by_halves { result ≡ place names.now places.now (spelled names.now.text.now w) }
-    ensures in_order { result < length places.now }
-{
-    let mut base = 0;
-    let mut left = places.len();
-    while 1 < left {
-        let half = left / 2;
-        if !stands_before(names, places, base + half, w) {
-            base += half;
-        }
-        left -= half;
-    }
-    base
-}
-
-// The number to which a name leads.
-#[tactic(auto, unfolding(crate::specs::Order::led))]
-fn led(names: &Names, places: &[u32], w: u64) -> usize
-    requires some { 0 < length places.now }
-    requires few { length places.now ≤ names.now.n }
-    ensures by_place { result ≡ led names.now places.now (spelled names.now.text.now w) }
-    ensures of_a_name { result < names.now.n }
-{
-    let i = place(names, places, w);
-    entry(places, names.n, i)
-}
-
-// Whether names of the length of that at the range w are in the order.
-#[tactic(auto, using(crate::proofs::Laws::marked_all, crate::proofs::Laws::marked_at))]
-fn is_marked(text: &[u8], marks: &[u8], w: u64) -> bool
-    ensures { result ≡ marked marks.now (length (spelled text.now w)) }
-{
-    let len = spelling(text, w).len();
-    marks.is_empty() || marks.get(len) == Some(&1)
 }
 
 impl<'a> Order<'a> {
@@ -97,7 +32,11 @@ impl<'a> Order<'a> {
         if !is_marked(names.text, self.marks, w) {
             return names.seek(w);
         }
-        let k = led(names, self.places, w);
+        let places = Places {
+            names: *names,
+            numbers: self.places,
+        };
+        let k = places.led(w);
         if same_name(names.text, w, names.range_at(k)) {
             Some(k)
         } else {
@@ -106,41 +45,8 @@ impl<'a> Order<'a> {
     }
 }
 
-// Whether the name j, if of a marked length, leads to an equal one that is not later.
-#[tactic(auto, using(crate::proofs::Laws::leads_unmarked, crate::proofs::Laws::leads_same))]
-fn leads(names: &Names, places: &[u32], marks: &[u8], j: usize) -> bool
-    requires some { 0 < length places.now }
-    requires few { length places.now ≤ names.now.n }
-    requires of_a_name { j < names.now.n }
-    ensures { IsTrue result → Leads names.now places.now marks.now j }
-{
-    let w = names.range_at(j);
-    if !is_marked(names.text, marks, w) {
-        return true;
-    }
-    let k = led(names, places, w);
-    if j < k {
-        return false;
-    }
-    same_name(names.text, w, names.range_at(k))
-}
-
-// Whether each name of a marked length leads to the first of its kind.
-#[tactic(auto, using(crate::proofs::Laws::check_turn))]
-fn is_checked(names: &Names, places: &[u32], marks: &[u8]) -> bool
-    requires some { 0 < length places.now }
-    requires few { length places.now ≤ names.now.n }
-    ensures { IsTrue result → Checked names.now places.now marks.now names.now.n }
-{
-    for j in 0..names.n {
-        if !leads(names, places, marks, j) {
-            return false;
-        }
-    }
-    true
-}
-
 // Puts k at place i of m, and moves the later ones on.
+// Kept: the places are lent and there is no heap, so the number of those that are filled stands beside them.
 fn insert(places: &mut [u32], m: usize, i: usize, k: u32)
     requires in_order { i ≤ m }
     requires room { m < length places.old }
@@ -157,8 +63,12 @@ fn gap(names: &Names, places: &[u32], w: u64) -> Option<usize>
     if places.is_empty() {
         return Some(0);
     }
-    let i = place(names, places, w);
-    let x = names.range_at(entry(places, names.n, i));
+    let places = Places {
+        names: *names,
+        numbers: places,
+    };
+    let i = places.place(w);
+    let x = names.range_at(places.entry(i));
     if same_name(names.text, w, x) {
         return None;
     }
@@ -210,7 +120,18 @@ fn tried<'a>(names: Names<'a>, places: &'a [u32], marks: &'a [u8]) -> Order<'a>
     ensures same_names { result.names ≡ names.entry }
     ensures same_marks { result.marks.now ≡ marks.now }
 {
-    if !places.is_empty() && is_checked(&names, places, marks) {
+    if places.is_empty() {
+        return Order {
+            names,
+            places,
+            marks,
+        };
+    }
+    let made = Places {
+        names,
+        numbers: places,
+    };
+    if made.is_checked(marks) {
         Order {
             names,
             places,

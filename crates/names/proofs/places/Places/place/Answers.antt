@@ -1,8 +1,8 @@
 use Rattle.std.proofs.Common.{◌≡◌, ◌+◌, ◌/◌, arith}
 use Rattle.trees.specs.Choice.{pick}
 use Rattle.names.proofs.Laws.{halving_turn, halving_end}
-use Rattle.names.proofs.order.place.Goals as goal
-use Rattle.names.proofs.order.place.Goals.{then-not-stands_before, else-not-stands_before}
+use Rattle.names.proofs.places.Places.place.Goals as goal
+use Rattle.names.proofs.places.Places.place.Goals.{then-not-stands_before, else-not-stands_before}
 
 pub loop-left-preserved : goal.loop-left-preserved
 loop-left-preserved c =
