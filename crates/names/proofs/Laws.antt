@@ -9,7 +9,7 @@ use Rattle.words.specs.Bytes.{same_bytes}
 use Rattle.words.proofs.SameLaws.{same_eq}
 use Rattle.names.specs.declared.row.Names.{Names}
 use Rattle.names.specs.Compare.{before}
-use Rattle.names.specs.Order.{range_at, name_at, entry, ordered, halves, place, led, marked, Leads, Checked, NoneBefore, First, Ready}
+use Rattle.names.specs.Order.{range_at, name_at, entry, ordered, halves, place, led, marked, Leads, Checked, NoneBefore, First}
 
 pub entry_in : (places : List ℕ) (n i k : ℕ) → k ≡ get_or places i 0 → k < n → k ≡ entry places n i
 unfolding entry
@@ -107,14 +107,14 @@ module _ (s : Names) (places marks : List ℕ) where
   lead_to j name e l h = rw e (l (rw e at h))
 
   module _ (k w x : ℕ) (p : k ≡ led s places (spelled s.text.now w)) (q : x ≡ range_at s k)
-      (v : Ready s places marks) (some : 0 < length places) (h : marked marks (length (spelled s.text.now w)) ≡ true) where
+      (v : Checked s places marks s.n) (h : marked marks (length (spelled s.text.now w)) ≡ true) where
     pub sought_here : same_bytes (spelled s.text.now w) (spelled s.text.now x) ≡ true → k < s.n → First s (spelled s.text.now w) (Some k)
     sought_here e u = (u, rw (← q) e, λ j y. go j y (same_bytes (spelled s.text.now w) (name_at s j)) refl)
       where
         go : (j : ℕ) → j < k → (c : Bool) → same_bytes (spelled s.text.now w) (name_at s j) ≡ c → c ≡ false
         go j y false _ = refl
         go j y true z =
-            let l : led s places (spelled s.text.now w) ≤ j = (lead_to j (spelled s.text.now w) (same_eq (spelled s.text.now w) (name_at s j) z) ((v.checked some).each j (omega arith)) h).0 in
+            let l : led s places (spelled s.text.now w) ≤ j = (lead_to j (spelled s.text.now w) (same_eq (spelled s.text.now w) (name_at s j) z) (v.each j (omega arith)) h).0 in
             absurd (omega arith)
 
     pub sought_none : same_bytes (spelled s.text.now w) (spelled s.text.now x) ≡ false → First s (spelled s.text.now w) None
@@ -123,5 +123,5 @@ module _ (s : Names) (places marks : List ℕ) where
         go : (c : Bool) → same_bytes (spelled s.text.now w) (name_at s j) ≡ c → c ≡ false
         go false _ = refl
         go true z =
-            let l : same_bytes (spelled s.text.now w) (name_at s (led s places (spelled s.text.now w))) ≡ true = (lead_to j (spelled s.text.now w) (same_eq (spelled s.text.now w) (name_at s j) z) ((v.checked some).each j y) h).1 in
+            let l : same_bytes (spelled s.text.now w) (name_at s (led s places (spelled s.text.now w))) ≡ true = (lead_to j (spelled s.text.now w) (same_eq (spelled s.text.now w) (name_at s j) z) (v.each j y) h).1 in
             absurd (false≢true (sym e ∙ rw (q, p) l))

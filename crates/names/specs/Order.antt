@@ -59,8 +59,3 @@ NoneBefore s name k = (j : ℕ) → j < k → same_bytes name (name_at s j) ≡ 
 abbrev pub First : Names → List ℕ → Option ℕ → Type 0
 First s name None = NoneBefore s name s.n
 First s name (Some k) = (k < s.n) × (same_bytes name (name_at s k) ≡ true) × NoneBefore s name k
-
--- an order that may be searched, if it has any place at all
-pub record Ready (s : Names) (places marks : List ℕ) : Type 0 where
-  pub few : length places ≤ s.n
-  pub checked : 0 < length places → Checked s places marks s.n

@@ -1,47 +1,50 @@
 // The first of a row of names that is the one sought, by an order of their numbers that is searched by halves. Nothing is proved of how the
 // order is made: it is tried with each name once, and that it leads each to the first of its kind is all that a search needs.
 ghost use Rattle.std.specs.Prelude.{◌≡◌, ◌+◌, ◌<◌, ◌≤◌, length, IfSome};
+ghost use Rattle.std.specs.Option.{ForSome};
 ghost use Rattle.trees.specs.Names.{spelled};
-ghost use Rattle.names.specs.Order.{First, Ready};
+ghost use Rattle.names.specs.Order.{First, Checked};
 
 use crate::compare::{comes_before, same_name};
 use crate::places::{Places, is_marked};
 use crate::row::Names;
 use tokens::names::spelling;
 
-// An order of the names whose lengths are marked, all of them where there are no marks. With no places there is none, and the search goes one
-// after another.
+// An order of the names whose lengths are marked, all of them where there are no marks: it leads each of them to the first of its kind.
 #[derive(Clone, Copy)]
 pub struct Order<'a> {
-    pub names: Names<'a>,
-    pub places: &'a [u32],
+    pub places: Places<'a>,
     pub marks: &'a [u8],
-    pub ghost leads_to_first: { Ready names places.now marks.now },
+    pub ghost leads_to_first: { Checked places.names places.numbers.now marks.now places.names.n },
 }
 
 impl<'a> Order<'a> {
-    // The number of the first name that is the one sought: by the order, where there is one that has names of that length.
+    // The number of the first name that is the one sought: by the order, where it has names of that length.
     #[tactic(auto, using(crate::proofs::Laws::sought_here, crate::proofs::Laws::sought_none))]
-    pub fn find(&self, w: u64) -> Option<usize>
-        ensures { First self.now.names (spelled self.now.names.text.now w) result }
+    pub fn sought(&self, w: u64) -> Option<usize>
+        ensures { First self.now.places.names (spelled self.now.places.names.text.now w) result }
     {
-        let names = &self.names;
-        if self.places.is_empty() {
-            return names.seek(w);
-        }
+        let names = &self.places.names;
         if !is_marked(names.text, self.marks, w) {
             return names.seek(w);
         }
-        let places = Places {
-            names: *names,
-            numbers: self.places,
-        };
-        let k = places.led(w);
+        let k = self.places.led(w);
         if same_name(names.text, w, names.range_at(k)) {
             Some(k)
         } else {
             None
         }
+    }
+}
+
+// The number of the first name that is the one sought: by the order, if there is one, else one after another.
+pub fn find(names: &Names, order: Option<&Order>, w: u64) -> Option<usize>
+    requires { ForSome order (λ o. o.now.places.names ≡ names.now) }
+    ensures { First names.now (spelled names.now.text.now w) result }
+{
+    match order {
+        Some(order) => order.sought(w),
+        None => names.seek(w),
     }
 }
 
@@ -114,44 +117,32 @@ fn put_in_order(names: &Names, places: &mut [u32], marks: &[u8]) -> usize
     m
 }
 
-// The order, where it leads each name to the first of its kind; else none.
-fn tried<'a>(names: Names<'a>, places: &'a [u32], marks: &'a [u8]) -> Order<'a>
+// The order, if it leads each name to the first of its kind.
+fn tried<'a>(names: Names<'a>, places: &'a [u32], marks: &'a [u8]) -> Option<Order<'a>>
     requires few { length places.now ≤ names.n }
-    ensures same_names { result.names ≡ names.entry }
-    ensures same_marks { result.marks.now ≡ marks.now }
+    ensures same_names { IfSome result (λ o. o.places.names ≡ names.entry) }
+    ensures same_marks { IfSome result (λ o. o.marks.now ≡ marks.now) }
 {
     if places.is_empty() {
-        return Order {
-            names,
-            places,
-            marks,
-        };
+        return None;
     }
-    let made = Places {
+    let places = Places {
         names,
         numbers: places,
     };
-    if made.is_checked(marks) {
-        Order {
-            names,
-            places,
-            marks,
-        }
+    if places.is_checked(marks) {
+        Some(Order { places, marks })
     } else {
-        Order {
-            names,
-            places: &[],
-            marks,
-        }
+        None
     }
 }
 
-// Puts the names of marked lengths in order.
-pub fn prepare<'a>(names: Names<'a>, places: &'a mut [u32], marks: &'a [u8]) -> Order<'a>
+// Puts the names of marked lengths in order. There is none where the names do not lead to the first of their kind.
+pub fn prepare<'a>(names: Names<'a>, places: &'a mut [u32], marks: &'a [u8]) -> Option<Order<'a>>
     requires few { names.n ≤ 65536 }
     requires room { names.n ≤ length places.old }
-    ensures same_names { result.names ≡ names.entry }
-    ensures same_marks { result.marks.now ≡ marks.now }
+    ensures same_names { IfSome result (λ o. o.places.names ≡ names.entry) }
+    ensures same_marks { IfSome result (λ o. o.marks.now ≡ marks.now) }
 {
     let m = put_in_order(&names, places, marks);
     tried(names, &places[..m], marks)
