@@ -1,5 +1,4 @@
-use Rattle.lexer.proofs.RangeLaws.{spare}
-use Rattle.lexer.proofs.TextLaws.{lex_start, lex_many, lex_again, lex_refused, lex_none}
+use Rattle.lexer.proofs.TextLaws.{lex_many, lex_again, lex_refused, lex_none}
 use Rattle.lexer.proofs.text.lex.Goals as goal
 
 pub returns-then-n-eq16384 : goal.returns-then-n-eq16384
@@ -13,6 +12,3 @@ returns-in-Err c = search lex_refused
 
 pub returns-in-Ok-None : goal.returns-in-Ok-None
 returns-in-Ok-None c = search lex_none
-
-pub put_token-requires : goal.put_token-requires
-put_token-requires c = search spare
