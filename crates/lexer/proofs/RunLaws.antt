@@ -8,8 +8,8 @@ use lib.ListN.{length, length-append}
 use lib.Dec.{leb}
 use borrow.Author.Tests.{leb-true, leb-false}
 use Rattle.tokens.specs.declared.Token.{Token}
-use Rattle.lexer.specs.declared.Lexed.{Lexed}
-use Rattle.lexer.specs.declared.Lexed.TheVariants.{Found, Refused, End}
+use Rattle.std.proofs.Common.{Some, None, Ok, Err}
+use Rattle.lexer.specs.Lexed.{Lexed, Found, Refused, End}
 use Rattle.lexer.specs.Lexer.{token, next_token}
 use Rattle.lexer.specs.Text.{last_of, then_from, tokens_from, lexed, Lexes, none, more, StopsFrom, at-end, refused, too_many, Stops, Still, Further}
 use Rattle.lexer.specs.Ranges.{Apart, no_more, behind, All, Proper, Spelled}
@@ -20,9 +20,9 @@ use Rattle.lexer.proofs.RangeLaws.{found_inside, refused-inside, found_proper}
 module _ (text : List ℕ) where
   stops_last : (i : ℕ) (r : Lexed) → next_token text i ≡ r → StopsFrom text 0 i (last_of r)
   unfolding last_of
-  stops_last i (Found t j) e = too_many none e refl refl
-  stops_last i (Refused p) e = refused none e (omega arith) refl
-  stops_last i End e = at-end none e (omega arith)
+  stops_last i (Ok (Some (t, j))) e = too_many none e refl refl
+  stops_last i (Err d) e = refused none e (omega arith) refl
+  stops_last i (Ok None) e = at-end none e (omega arith)
 
   stops_more : {n i j : ℕ} {t : Token} {us : List Token} → next_token text i ≡ Found t j → StopsFrom text n j us → StopsFrom text (suc n) i (t ∷ us)
   stops_more e (at-end l f b) = at-end (more e l) f (omega arith)
@@ -31,9 +31,9 @@ module _ (text : List ℕ) where
 
   stops_then : (n i : ℕ) (r : Lexed) → next_token text i ≡ r → ((j : ℕ) → StopsFrom text n j (tokens_from text n j)) → StopsFrom text (suc n) i (then_from (λ j. tokens_from text n j) r)
   unfolding then_from
-  stops_then n i (Found t j) e f = stops_more e (f j)
-  stops_then n i (Refused p) e f = refused none e (omega arith) refl
-  stops_then n i End e f = at-end none e (omega arith)
+  stops_then n i (Ok (Some (t, j))) e f = stops_more e (f j)
+  stops_then n i (Err d) e f = refused none e (omega arith) refl
+  stops_then n i (Ok None) e f = at-end none e (omega arith)
 
   stops_from : (n i : ℕ) → StopsFrom text n i (tokens_from text n i)
   unfolding tokens_from
@@ -46,14 +46,14 @@ stops text = stops_from text 16384 0
 -- ---- there is one way
 
 token_or : Token → Lexed → Token
-token_or u (Found t j) = t
-token_or u (Refused p) = u
-token_or u End = u
+token_or u (Ok (Some (t, j))) = t
+token_or u (Err d) = u
+token_or u (Ok None) = u
 
 end_or : ℕ → Lexed → ℕ
-end_or k (Found t j) = j
-end_or k (Refused p) = k
-end_or k End = k
+end_or k (Ok (Some (t, j))) = j
+end_or k (Err d) = k
+end_or k (Ok None) = k
 
 same_token : (t u : Token) (j k : ℕ) → Found t j ≡ Found u k → t ≡ u
 unfolding token_or

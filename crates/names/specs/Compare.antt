@@ -1,5 +1,5 @@
 -- Names compared by their lengths, and by their bytes where these are equal.
-use Rattle.std.specs.Prelude.{◌≡◌, ℕ, suc, ◌<◌, ◌≤◌, Bool, true, false, List, [], ◌∷◌, length, ◌==◌, nat_lt, slice_index}
+use Rattle.std.specs.Prelude.{ℕ, suc, Bool, true, false, List, [], ◌∷◌, length, ◌==◌, nat_lt, slice_index}
 use Rattle.trees.specs.Choice.{pick}
 
 -- how many bytes at the front agree
@@ -15,15 +15,3 @@ below a b = nat_lt (slice_index a (agreed a b)) (slice_index b (agreed a b))
 -- the shorter comes before, and of one length the lower by bytes
 unfoldable pub before : List ℕ → List ℕ → Bool
 before a b = pick (nat_lt (length a) (length b)) true (pick (nat_lt (length b) (length a)) false (below a b))
-
--- the bytes from i to j agree
-unfoldable pub Agree : List ℕ → List ℕ → ℕ → ℕ → Type 0
-Agree a b i j = (k : ℕ) → i ≤ k → k < j → slice_index a k ≡ slice_index b k
-
--- they agree where the number r is 0
-pub record Tested (a b : List ℕ) (i j r : ℕ) : Type 0 where
-  pub agree : r ≡ 0 → Agree a b i j
-
--- two bytes are equal where the number r is 0
-pub record Apart (x y r : ℕ) : Type 0 where
-  pub equal : r ≡ 0 → x ≡ y

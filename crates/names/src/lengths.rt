@@ -1,42 +1,29 @@
 // The lengths of names: which are sought for the parameters of a template, and whether a row of names has a long one.
-ghost use Rattle.std.specs.Prelude.{◌≡◌, ◌+◌, ◌<◌, ◌≤◌, length};
+ghost use Rattle.std.specs.Prelude.{◌≡◌, ◌<◌, ◌≤◌, length, IsTrue};
 ghost use Rattle.records.specs.Slots.{slots};
-ghost use Rattle.names.specs.Order.{Some};
 
 use crate::order::mark;
-use records::rec_at;
-use trees::Kind;
+use crate::row::Names;
+use records::{rec_at, slots};
+use trees::{Kind, Rec};
 
-// Marks the length of the name at slot j.
-fn mark_name(text: &[u8], src: &[u8], j: usize, marks: &mut [u8]) {
-    if j < src.len() / 24 {
-        mark(text, marks, rec_at(src, j).word1);
+// The record at slot j, if there is one.
+fn rec_if(src: &[u8], j: usize) -> Option<Rec> {
+    if j < slots(src) {
+        Some(rec_at(src, j))
+    } else {
+        None
     }
 }
 
-fn is_wildcard(src: &[u8], j: usize) -> bool {
-    if j < src.len() / 24 {
-        return rec_at(src, j).kind == Kind::PatternWildcard as u8;
-    }
-    false
-}
-
-// Marks the length of the name that is sought for the record at slot k: that of a Var, or of a Bind over a Wildcard.
-fn mark_at(text: &[u8], src: &[u8], k: usize, marks: &mut [u8])
+// Whether a name is sought for the record at slot k: for a Var, or a Bind over a Wildcard. It stands in the next record.
+fn is_sought(src: &[u8], k: usize) -> bool
     requires { k < slots src.now }
 {
-    let r = rec_at(src, k);
-    if r.kind == Kind::PatternVar as u8 {
-        mark_name(text, src, k + 1, marks);
-        return;
-    }
-    if r.kind != Kind::PatternBind as u8 {
-        return;
-    }
-    let over = is_wildcard(src, k + 2);
-    if over {
-        mark_name(text, src, k + 1, marks);
-    }
+    let kind = rec_at(src, k).kind;
+    kind == Kind::PatternVar as u8
+        || kind == Kind::PatternBind as u8
+            && rec_if(src, k + 2).is_some_and(|r| r.kind == Kind::PatternWildcard as u8)
 }
 
 // Marks the lengths that are sought for the records from slot `from` up to `upto`.
@@ -44,38 +31,18 @@ pub fn mark_sought(text: &[u8], src: &[u8], from: usize, upto: usize, marks: &mu
     requires { upto ≤ slots src.now }
     ensures { length marks.new ≡ length marks.old }
 {
-    let mut k = from;
-    while k < upto {
-        mark_at(text, src, k, marks);
-        k += 1;
-    }
-}
-
-// Whether one of the n names from slot `from` on is long.
-fn has_long(src: &[u8], from: usize, n: usize) -> bool
-    requires { from + n ≤ slots src.now }
-{
-    let mut j = 0;
-    while j < n {
-        let p = rec_at(src, from + j);
-        if 64 < p.word1 % 4294967296 {
-            return true;
+    for k in from..upto {
+        if is_sought(src, k) {
+            if let Some(name) = rec_if(src, k + 1) {
+                mark(text, marks, name.word1);
+            }
         }
-        j += 1;
     }
-    false
 }
 
-// Whether an order of the n names from slot `from` on pays: there are many, or a long one among them.
-pub fn pays(src: &[u8], from: usize, n: usize) -> bool
-    requires { from + n ≤ slots src.now }
-    ensures { Some n result }
+// Whether an order of the names pays: there are many, or a long one among them.
+pub fn pays(names: &Names) -> bool
+    ensures { IsTrue result → 0 < names.now.n }
 {
-    if n == 0 {
-        return false;
-    }
-    if 128 <= n {
-        return true;
-    }
-    has_long(src, from, n)
+    128 <= names.n || (0..names.n).any(|j| 64 < names.range_at(j) % 4294967296)
 }

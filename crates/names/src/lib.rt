@@ -4,3 +4,6 @@
 pub mod compare;
 pub mod lengths;
 pub mod order;
+pub mod places;
+pub mod row;
+pub mod seek;

@@ -24,7 +24,7 @@ use Rattle.grammar.proofs.Lexemes.{there}
 use Rattle.grammar.proofs.TokenKinds.{tokens}
 use Rattle.grammar.proofs.Defs.{exact_defs}
 use Rattle.grammar.proofs.Theorem.{Parsed, parsed, parses, one_parse}
-use Rattle.lexer.specs.declared.Lexed.TheVariants.{Found, Refused, End}
+use Rattle.lexer.specs.Lexed.{Found, Refused, End}
 use Rattle.lexer.specs.Lexer.{token, next_token}
 use Rattle.lexer.specs.Text.{lexed, Lexes, none, more, Stops, at-end, refused, too_many}
 use Rattle.lexer.proofs.RunLaws.{stops, front, no_further, one-run, proper}

@@ -8,7 +8,7 @@ use Rattle.parser.specs.Reading.{Reading, done, stopped, number, bytes}
 use Rattle.grammar.specs.Grammar.{Gram, definition, list}
 use Rattle.grammar.specs.Depth.{deepest}
 use Rattle.grammar.specs.Nesting.{Deep}
-use Rattle.lexer.specs.declared.Lexed.TheVariants.{Refused, End}
+use Rattle.lexer.specs.Lexed.{Refused, End}
 use Rattle.lexer.specs.Lexer.{next_token}
 use Rattle.lexer.specs.Text.{Lexes}
 use Rattle.texts.specs.TextReading.{token_input}

@@ -196,4 +196,4 @@ module _ (text : List ℕ) (n r space : ℕ) (l' : List ℕ) where
   unfolding text_reading
   not_ascii b p h w k t a =
       let z = ascii-before text 0 (sym w ∙ k) in
-      rw (le-ltb 65536 (length text) h, lt-ltb (run_end is_ascii text 0) (length text) (omega arith), ← t.value) a
+      rw (le-ltb 65536 (length text) h, lt-ltb (run_end is_ascii text 0) (length text) (omega arith), ← t.ends) a

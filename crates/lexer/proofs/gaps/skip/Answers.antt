@@ -1,14 +1,5 @@
-use Rattle.lexer.proofs.GapLaws.{skip-start, skip_again, skip_stop, skip-end}
+use Rattle.lexer.proofs.GapLaws.{skip_again}
 use Rattle.lexer.proofs.gaps.skip.Goals as goal
 
-pub loop-i-init : goal.loop-i-init
-loop-i-init c = search skip-start
-
-pub returns-then-j-i : goal.returns-then-j-i
-returns-then-j-i c = search skip_stop
-
 pub loop-i-preserved : goal.loop-i-preserved
-loop-i-preserved c = search skip_again
-
-pub returns : goal.returns
-returns c = search skip-end
+loop-i-preserved c = skip_again _ _ _ c.loop-i.invariant _ _ c.loop-i-test.true c.pass.ensures.by_its_first_byte c.in-Some.is c.pass.ensures.behind c.pass.ensures.in_the_text

@@ -1,9 +1,5 @@
-use Prim.Native.Nat.{◌-◌}
 use Rattle.lexer.proofs.TextLaws.{Lexing}
 use Rattle.lexer.proofs.text.lex.Given as goal
 
 abbrev pub invariant-loop-n : goal.invariant-loop-n
 invariant-loop-n l = Lexing l.text l.initial.out l.out l.i l.n
-
-abbrev pub decreases-loop-n : goal.decreases-loop-n
-decreases-loop-n l = 16385 - l.n

@@ -1,5 +1,0 @@
-use Rattle.lexer.proofs.IntegerLaws.{digits_are}
-use Rattle.lexer.proofs.integer.digits.Goals as goal
-
-pub returns : goal.returns
-returns c = search digits_are

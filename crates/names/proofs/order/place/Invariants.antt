@@ -1,9 +1,0 @@
-use Rattle.trees.specs.Names.{spelled}
-use Rattle.names.proofs.Laws.{Halving}
-use Rattle.names.proofs.order.place.Given as goal
-
-abbrev pub invariant-loop-left : goal.invariant-loop-left
-invariant-loop-left l = Halving l.text l.src l.from l.n l.order l.m (spelled l.text l.w) l.base l.left
-
-abbrev pub decreases-loop-left : goal.decreases-loop-left
-decreases-loop-left l = l.left
