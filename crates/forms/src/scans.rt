@@ -1,41 +1,44 @@
-// Passing trees, and the first MacroArg: one pass each.
+// Passing trees, and the first record of a kind: one pass each.
 ghost use Rattle.std.specs.Prelude.{◌≡◌, ◌+◌, ◌≤◌};
 ghost use Rattle.records.specs.Slots.{slots, recs};
-ghost use Rattle.forms.specs.Lists.{left, skip, first_macro_arg};
+ghost use Rattle.forms.specs.Lists.{left, skip, first_macro_arg, FirstToPass};
 
 use records::{rec_at, slots};
+use trees::{Kind, Rec};
 
 // The index after the n trees that start at the index `at`.
 pub fn skip(list: &[u8], at: usize, n: usize) -> usize
-    requires { (slots list.now ≤ 65536) × (n ≤ 65536) }
+    requires few { slots list.now ≤ 65536 }
+    requires few_trees { n ≤ 65536 }
     ensures { result ≡ at + skip n (left list.now at) }
 {
     let end = slots(list);
     let mut trees = n;
-    let mut i = at;
-    while i < end {
+    for i in at..end {
         if trees == 0 {
             return i;
         }
-        let r = rec_at(list, i);
-        trees = trees - 1 + r.count as usize;
-        i += 1;
+        trees = trees - 1 + rec_at(list, i).count as usize;
     }
-    i
+    at.max(end)
+}
+
+// The index of the first record that passes a test.
+pub fn first_where<F: Fn(Rec) -> bool>(list: &[u8], test: F) -> Option<usize>
+    requires { F.IsAlwaysCallable test }
+    ensures { FirstToPass (F.post test) list.now result }
+{
+    for i in 0..slots(list) {
+        if test(rec_at(list, i)) {
+            return Some(i);
+        }
+    }
+    None
 }
 
 // The index of the first MacroArg, or the number of records.
 pub fn first_macro_arg(list: &[u8]) -> usize
     ensures { result ≡ first_macro_arg (recs list.now) }
 {
-    let end = slots(list);
-    let mut i = 0;
-    while i < end {
-        let r = rec_at(list, i);
-        if r.kind == 38 {
-            return i;
-        }
-        i += 1;
-    }
-    i
+    first_where(list, |r| r.kind == Kind::PatternMacroArg as u8).unwrap_or(slots(list))
 }
