@@ -1,14 +1,11 @@
-use Rattle.templates.proofs.ScanLaws.{first-start, first_turn, first-here, first-end}
+use Rattle.std.proofs.Common.{rules}
+use Rattle.forms.proofs.SkipLaws.{first_where}
+use Rattle.templates.proofs.ScanLaws.{tests_arg}
+use Rattle.templates.specs.Answers.{is_arg}
 use Rattle.templates.proofs.scans.first_arg.Goals as goal
 
-pub loop-i-init : goal.loop-i-init
-loop-i-init c = search first-start
+pub returns-clause-inside : goal.returns-clause-inside
+returns-clause-inside c = c.first_where.ensures.inside
 
-pub returns-then-is_arg : goal.returns-then-is_arg
-returns-then-is_arg c = search first-here
-
-pub loop-i-preserved : goal.loop-i-preserved
-loop-i-preserved c = search first_turn
-
-pub returns : goal.returns
-returns c = search first-end
+pub returns-clause-first : goal.returns-clause-first
+returns-clause-first c = first_where is_arg c.args.list.now _ _ c.first_where.ensures (λ r b p. tests_arg r b (search rules))
