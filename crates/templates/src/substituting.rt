@@ -16,6 +16,8 @@ use trees::Kind;
 struct Patterns<'a> {
     records: &'a [u8],
     starts: &'a [u32],
+    ghost found: { Starts records.now starts.now (length starts.now) },
+    ghost few: { length starts.now ≤ 65536 },
 }
 
 // Fills the table of the starts of the patterns. How many there are.
@@ -48,9 +50,7 @@ impl<'a> Patterns<'a> {
 
     // Appends the pattern k.
     fn append(&self, k: usize, out: &mut [u8], o: usize, room: usize) -> Option<usize>
-        requires starts { Starts self.now.records.now self.now.starts.now (length self.now.starts.now) }
         requires given { k < length self.now.starts.now }
-        requires few { length self.now.starts.now ≤ 65536 }
         requires o_le_room { o ≤ room }
         requires few_written { room ≤ 65536 }
         ensures { Wrote room out.old o (pattern_records self.now.records.now k) out.new result }
@@ -69,10 +69,8 @@ impl<'a> Patterns<'a> {
         o: usize,
         room: usize,
     ) -> Option<usize>
-        requires starts { Starts self.now.records.now self.now.starts.now (length self.now.starts.now) }
         requires args_below { ArgsBelow template.now (length self.now.starts.now) }
         requires there { i < slots template.now }
-        requires few { length self.now.starts.now ≤ 65536 }
         requires o_le_room { o ≤ room }
         requires few_written { room ≤ 65536 }
         ensures { Wrote room out.old o (filled_by self.now.records.now (rec_at template.now i)) out.new result }
@@ -86,9 +84,7 @@ impl<'a> Patterns<'a> {
 
     // Appends the template with the patterns in it to an empty output.
     fn fill(&self, template: &[u8], out: &mut [u8], room: usize) -> Option<usize>
-        requires starts { Starts self.now.records.now self.now.starts.now (length self.now.starts.now) }
         requires args_below { ArgsBelow template.now (length self.now.starts.now) }
-        requires few { length self.now.starts.now ≤ 65536 }
         requires few_written { room ≤ 65536 }
         ensures { Wrote room out.old 0 (fill_from template.now 0 self.now.records.now) out.new result }
     {

@@ -6,14 +6,14 @@ use Rattle.templates.proofs.substituting.substitute_by.Goals as goal
 pub returns-in-Some : goal.returns-in-Some
 returns-in-Some c = substitute_refused _ _ c.requires.ready _ _ c.find_starts-m.ensures _ _ _ _ _ c.in-Some.ensures.first c.in-Some.ensures.inside
 
-pub fill-requires-clause-starts : goal.fill-requires-clause-starts
-fill-requires-clause-starts c = starts_found _ _ _ c.find_starts-m.ensures
+pub invariant_of-found-clause-found : goal.invariant_of-found-clause-found
+invariant_of-found-clause-found c = starts_found _ _ _ c.find_starts-m.ensures
 
 pub fill-requires-clause-args_below : goal.fill-requires-clause-args_below
 fill-requires-clause-args_below c = cut_args _ _ _ c.find_starts-m.ensures.room (args_below _ _ c.requires.ready _ _ c.find_starts-m.ensures c.in_default.ensures.first)
 
-pub fill-requires-clause-few : goal.fill-requires-clause-few
-fill-requires-clause-few c = cut_few _ _ (few_starts _ _ c.requires.ready _ _ c.find_starts-m.ensures)
+pub invariant_of-found-clause-few : goal.invariant_of-found-clause-few
+invariant_of-found-clause-few c = cut_few _ _ (few_starts _ _ c.requires.ready _ _ c.find_starts-m.ensures)
 
 pub fill-requires-clause-few_written : goal.fill-requires-clause-few_written
 fill-requires-clause-few_written c = search few_room
