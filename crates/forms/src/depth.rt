@@ -1,5 +1,5 @@
 // The first pattern or expression at depth 65, in one pass, with the number of trees that each open level still expects.
-ghost use Rattle.std.specs.Prelude.{◌≡◌, true, false, ◌∷◌, ◌+◌, ◌-◌, ◌≤◌, ◌<◌, length, eqb};
+ghost use Rattle.std.specs.Prelude.{◌≡◌, true, false, ◌∷◌, ◌+◌, ◌-◌, ◌≤◌, ◌<◌, length, eqb, unwrap_or, IfSome};
 ghost use Rattle.records.specs.Slots.{slots, recs};
 ghost use Rattle.forms.specs.Tests.{◌and◌};
 ghost use Rattle.forms.specs.Stack.{pending};
@@ -83,22 +83,22 @@ fn step(counts: &mut [u64], d: usize, level: bool, c: u64) -> usize
     d
 }
 
-// The index of the first pattern or expression at depth 65, or the number of records.
-pub fn first_deep(list: &[u8]) -> usize
+// The index of the first pattern or expression at depth 65.
+pub fn first_deep(list: &[u8]) -> Option<usize>
     requires { slots list.now ≤ 65536 }
-    ensures { result ≡ first_deep_in (recs list.now) }
+    ensures inside { IfSome result (λ i. i < slots list.now) }
+    ensures first { unwrap_or result (slots list.now) ≡ first_deep_in (recs list.now) }
 {
-    let n = slots(list);
     let mut counts = [0u64; LEVELS];
     let mut depth = 0;
-    for i in 0..n {
+    for i in 0..slots(list) {
         let r = rec_at(list, i);
         let level = is_level(r);
         let d = settled(&counts, depth);
         if too_deep(level, d) {
-            return i;
+            return Some(i);
         }
         depth = step(&mut counts, d, level, r.count as u64);
     }
-    n
+    None
 }

@@ -1,5 +1,5 @@
 // Passing trees, and the first record of a kind: one pass each.
-ghost use Rattle.std.specs.Prelude.{◌≡◌, ◌+◌, ◌≤◌};
+ghost use Rattle.std.specs.Prelude.{◌≡◌, ◌+◌, ◌≤◌, ◌<◌, unwrap_or, IfSome};
 ghost use Rattle.records.specs.Slots.{slots, recs};
 ghost use Rattle.forms.specs.Lists.{left, skip, first_macro_arg, FirstToPass};
 
@@ -36,9 +36,10 @@ pub fn first_where<F: Fn(Rec) -> bool>(list: &[u8], test: F) -> Option<usize>
     None
 }
 
-// The index of the first MacroArg, or the number of records.
-pub fn first_macro_arg(list: &[u8]) -> usize
-    ensures { result ≡ first_macro_arg (recs list.now) }
+// The index of the first MacroArg.
+pub fn first_macro_arg(list: &[u8]) -> Option<usize>
+    ensures inside { IfSome result (λ i. i < slots list.now) }
+    ensures first { unwrap_or result (slots list.now) ≡ first_macro_arg (recs list.now) }
 {
-    first_where(list, |r| r.kind == Kind::PatternMacroArg as u8).unwrap_or(slots(list))
+    first_where(list, |r| r.kind == Kind::PatternMacroArg as u8)
 }

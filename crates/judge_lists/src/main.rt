@@ -209,12 +209,22 @@ fn report(rt: &impl Print, input: &mut [u8]) -> io::Result<()>
     Ok(())
 }
 
+// Where nothing is found, the number of records is printed.
 fn report_large(rt: &impl Print, list: &[u8]) -> io::Result<()>
     requires { slots list.now ≤ 65536 }
 {
     line(rt, "one pattern: ", u64::from(one_pattern(list, 0)))?;
-    line(rt, "first at depth 65: ", first_deep(list) as u64)?;
-    line(rt, "first MacroArg: ", first_macro_arg(list) as u64)?;
+    let n = slots(list);
+    line(
+        rt,
+        "first at depth 65: ",
+        first_deep(list).unwrap_or(n) as u64,
+    )?;
+    line(
+        rt,
+        "first MacroArg: ",
+        first_macro_arg(list).unwrap_or(n) as u64,
+    )?;
     line(rt, "after the first tree: ", skip(list, 0, 1) as u64)
 }
 
