@@ -1,17 +1,21 @@
 -- The first record that passes a test, by what a closure answers. Assumes nothing.
 use Prim.Native.Nat.{ℕ, ◌≤◌, min}
 use native.Mathlib.Omega.{arith}
-use mathlib.Core.Path.{◌≡◌}
+use mathlib.Core.Path.{◌≡◌, sym}
+use mathlib.Core.List.{List}
 use mathlib.Core.Bool.{Bool}
 use lib.Dec.{eqb, leb}
 use borrow.Author.Tests.{eq-eqb, ne_eqb}
 use Rattle.trees.specs.declared.Rec.{Rec}
+use Rattle.forms.specs.Lists.{first_of, first_macro_arg}
+use Rattle.forms.proofs.SkipLaws.{first_kind}
 use Rattle.expansion.specs.Nodes.{is_macro_arg}
 use Rattle.templates.specs.Answers.{is_arg, lacks_pattern}
 
-pub tests_arg : (r : Rec) (b : Bool) → b ≡ eqb r.kind 38 → b ≡ is_arg r
+-- the first MacroArg is the first record that is one
+pub first_arg : (rs : List Rec) → first_macro_arg rs ≡ first_of is_arg rs
 unfolding is_arg is_macro_arg
-tests_arg r b e = e
+first_arg rs = sym (first_kind 38 rs)
 
 pub lacks_arg : (n : ℕ) (r : Rec) → r.kind ≡ 38 → leb n r.word1 ≡ lacks_pattern n r
 unfolding lacks_pattern is_macro_arg

@@ -6,9 +6,9 @@ ghost use Rattle.templates.specs.Answers.{MakeReady, Params, Answered, template_
 ghost use Rattle.templates.specs.Writing.{Wrote};
 ghost use Rattle.templates.specs.Scans.{option_of, params_of, named_at, wildcard_at, parameter_at, making_from, argument, after_parameter};
 
-use crate::scans::{MOST, append, first_arg};
+use crate::scans::{MOST, append};
 use crate::{Answer, Refused};
-use forms::scans::first_where;
+use forms::scans::{first_macro_arg, first_where};
 use records::{rec_at, slots};
 use tokens::names::spelling;
 use trees::{Kind, Rec};
@@ -120,7 +120,7 @@ pub fn make_template(text: &[u8], pattern: &[u8], params: &[u8], out: &mut [u8])
     requires { MakeReady pattern.now params.now }
     ensures { Answered (template_answer text.now (recs pattern.now) (recs params.now) (space out.old)) (template_records text.now (recs pattern.now) (recs params.now)) out.old out.new result }
 {
-    if let Some(at) = first_arg(pattern) {
+    if let Some(at) = first_macro_arg(pattern) {
         return Err(Refused::MacroArg { at: at as u32 });
     }
     let room = slots(out).min(MOST);

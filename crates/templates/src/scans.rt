@@ -2,7 +2,7 @@
 ghost use Rattle.std.specs.Prelude.{◌≡◌, [], ◌∷◌, ◌≤◌, ◌<◌, unwrap_or, IfSome};
 ghost use Rattle.records.specs.Slots.{slots, recs};
 ghost use Rattle.forms.specs.Lists.{first_of};
-ghost use Rattle.templates.specs.Answers.{is_arg, lacks_pattern};
+ghost use Rattle.templates.specs.Answers.{lacks_pattern};
 ghost use Rattle.templates.specs.Writing.{Wrote, slice};
 
 use forms::scans::first_where;
@@ -11,14 +11,6 @@ use trees::{Kind, Rec};
 
 // A list that is written has at most so many records.
 pub const MOST: usize = 65536;
-
-// The slot of the first MacroArg.
-pub fn first_arg(list: &[u8]) -> Option<usize>
-    ensures inside { IfSome result (λ i. i < slots list.now) }
-    ensures first { unwrap_or result (slots list.now) ≡ first_of is_arg (recs list.now) }
-{
-    first_where(list, |r| r.kind == Kind::PatternMacroArg as u8)
-}
 
 // Whether r is a MacroArg with none of n patterns at its index.
 fn lacks_pattern(r: Rec, n: usize) -> bool
