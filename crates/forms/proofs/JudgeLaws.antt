@@ -176,9 +176,6 @@ pub sort_is : (w : Row) (k : Sort) (s n : ℕ) (b : Bool) → w.sort ≡ Some k 
 sort_is w k s n b e f = rw e f
 
 -- an Ident where one is expected
-pub name_not : (t s : ℕ) (r : Rec) → NameTaken t s r false
-name_not t s r = record { stands = λ e. absurd (false≢true e); childless = λ e. absurd (false≢true e) }
-
 name_good : (t s : ℕ) (r : Rec) → s ≡ 4 → r.kind ≡ 24 → r.flags ≡ 0 → r.count ≡ 0 → r.word2 ≡ 0
     → NameTaken t s r (leb (r.word1 / 4294967296 + r.word1 % 4294967296) t)
 unfolding stands row_for find rows placed position_ok words_ok singles some sorts_of leading run one ◌and◌
@@ -189,10 +186,6 @@ pub name_taken : (t s : ℕ) (r q : Rec) → r ≡ q → s ≡ 4 → r.kind ≡ 
 name_taken t s r q read e k f c w = rw (← read) (name_good t s r e k f c w)
 
 -- a Var where a pattern is expected
-pub var_not : (below left s : ℕ) (r : Rec) → VarTaken below left s r false
-var_not below left s r =
-    record { stands = λ t e. absurd (false≢true e); child = λ e. absurd (false≢true e); room = λ e. absurd (false≢true e) }
-
 var_good : (below left s : ℕ) (r : Rec) → s ≡ 1 → r.kind ≡ 30 → r.flags ≡ 0 → r.count ≡ 1 → r.word1 ≡ 0 → r.word2 ≡ 0
     → VarTaken below left s r (ltb below left)
 unfolding stands row_for find rows placed position_ok words_ok singles some sorts_of leading run one ◌and◌

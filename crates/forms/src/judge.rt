@@ -142,6 +142,8 @@ fn push_one(stack: &mut [u32], top: usize, sort: Option<Sort>) -> usize
     top + 1
 }
 
+// Kept: what stands on the stack is a number, a sort with a TupleField's place in it. The promise speaks of these numbers (`fits`, `placed`),
+// and one comparison of 32 bits tells whether a record may stand there.
 // The number of a sort, or 0 for none.
 fn number_of(sort: Option<Sort>) -> u32
     ensures { result ≡ sort_of sort }
