@@ -13,7 +13,6 @@ use Rattle.records.specs.Result.{refused}
 use Rattle.forms.specs.Kinds.{name, pattern}
 use Rattle.forms.specs.Forms.{is_one, is_many}
 use Rattle.grounds.proofs.Places.{fits-placed, fits-args, fits-names}
-use Rattle.std.specs.Prelude.{Result, Ok, Err}
 use Rattle.records.specs.declared.Ground.{Ground}
 use Rattle.records.specs.declared.Ground.TheVariants.{PartOfARecord, BadToken, MalformedList, MacroArg, MacroArgIndex, NoSpace, TooMuch, TooDeep, UnexpectedToken, UnexpectedEnd, UnknownDefinition, EmptyIdentifier, FirstCharacter, LaterCharacter, NotAConstant, UnknownPragma, TypeModifier, TypeDefinition, Attribute, VerificationAttribute, Extern, RuleName, Priority, Pattern, Expression, UncoveredWord, ExtractorName, ArgumentCount, CallOrder, TooManyExtractors, NotAToken, NotAscii}
 use Rattle.records.specs.Grounds as grounds
