@@ -66,8 +66,8 @@ fn may_stand(t: usize, s: u32, w: Row, r: Rec) -> bool
     singles(w) <= r.count as usize
 }
 
-// Whether the record at slot i is an Ident that may stand where the sort s is expected: every third record or so is one, and it has no children.
-// What is expected is asked first, so that the record is not taken apart for nothing.
+// Whether the record at slot i is an Ident that may stand where the sort s is expected: every third record or so is one, and it has no
+// children. What is expected is asked first, so that the record is not taken apart for nothing.
 fn is_name(list: &[u8], i: usize, t: usize, s: u32) -> bool
     requires { i < slots list.now }
     ensures { NameTaken t s (rec_at list.now i) result }
@@ -142,8 +142,8 @@ fn push_one(stack: &mut [u32], top: usize, sort: Option<Sort>) -> usize
     top + 1
 }
 
-// Kept: what stands on the stack is a number, a sort with a TupleField's place in it. The promise speaks of these numbers (`fits`, `placed`),
-// and one comparison of 32 bits tells whether a record may stand there.
+// Kept: what stands on the stack is a number, a sort with a TupleField's place in it. The promise speaks of these numbers (`fits`), and
+// one comparison of 32 bits tells whether a record may stand there: a struct of the two would be no plainer.
 // The number of a sort, or 0 for none.
 fn number_of(sort: Option<Sort>) -> u32
     ensures { result ≡ sort_of sort }

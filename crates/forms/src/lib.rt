@@ -36,8 +36,8 @@ impl Sort {
         self as u8
     }
 
-    // What stands on the stack where this sort is expected at the place p among its parent's children: its number, and a TupleField's place,
-    // so that only the record with that index may stand there.
+    // What stands on the stack where this sort is expected at the place p among its parent's children: its number, and a TupleField's
+    // place, so that only the record with that index may stand there.
     fn placed(self, p: usize) -> u32
         requires { p < 65536 }
         ensures { result ≡ placed (number self) p }

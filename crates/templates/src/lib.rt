@@ -11,8 +11,8 @@ ghost use Rattle.templates.specs.Answers.{refusal_of, number_of, Countable, Fini
 use records::{Ground, accepted, refused_on};
 use words::{clear, clear_from};
 
-// Why no template is made, or none is filled: the first record that is refused, a MacroArg where none may stand or one with no pattern at its
-// index; or that the complete list is longer than the space.
+// Why no template is made, or none is filled: the first record that is refused, a MacroArg where none may stand or one with no pattern at
+// its index; or that the complete list is longer than the space.
 #[derive(Clone, Copy, Debug, PartialEq, Eq)]
 pub enum Refused {
     MacroArg { at: u32 },
