@@ -15,7 +15,7 @@ use Rattle.trees.specs.Names.{Nonempty}
 use Rattle.trees.specs.Tree.{Tree, Trees, node, ∅, ◌▸◌, ◌⧺◌, count, record_of}
 use Rattle.trees.proofs.Laws.{⧺-none, count_⧺}
 use Rattle.tokens.specs.Input.{Input}
-use Rattle.forms.specs.declared.Row as row
+use Rattle.forms.specs.Kinds as kinds
 use Rattle.forms.specs.Tests.{◌and◌}
 use Rattle.forms.specs.Kinds.{none, tuple_field, row_for}
 use Rattle.forms.specs.Forms.{placed, one, run, some, singles, leading, sorts_of, position_ok, words_ok, stands, of_sort, of_sorts, AllOfKind}
@@ -121,11 +121,11 @@ run_row (step f r) = next f (run_row r)
 
 -- ---- the children of a record with the row w
 
-record Children (s : Input) (w : row.Row) (xs : Trees) : Type 0 where
+record Children (s : Input) (w : kinds.Columns) (xs : Trees) : Type 0 where
   sorts : Row s (sorts_of w (count xs)) xs
   enough : singles w ≤ count xs
 
-module _ {s : Input} (w : row.Row) where
+module _ {s : Input} (w : kinds.Columns) where
   children : {ls us zs : Trees} → Row s (leading w) ls → Run s w.any 0 us → Row s (one w.last) zs → Children s w (ls ⧺ (us ⧺ zs))
   unfolding sorts_of singles leading
   children {ls} {us} {zs} l u z =

@@ -14,9 +14,14 @@ use borrow.Author.Tests.{eq-eqb, ne_eqb, eqb-true, eqb-false}
 use Rattle.trees.specs.declared.Rec.{Rec}
 use Rattle.trees.specs.Choice.{pick}
 use Rattle.records.specs.Slots.{slots, rec_at, recs}
+use Rattle.std.specs.Prelude.{Some, None}
 use Rattle.forms.specs.declared.Row.{Row}
+use Rattle.forms.specs.declared.Sort.{Sort}
+use Rattle.forms.specs.declared.Sort.TheVariants.{Pattern, Expression, LetDef, Ident, Definition, TypeValue, Variant, Fields, StructField, TupleField, AttrKind, Priority, IfLet}
+use Rattle.forms.specs.Sorts.{number}
+use Rattle.forms.specs.Table.{columns_of}
 use Rattle.forms.specs.Tests.{◌and◌}
-use Rattle.forms.specs.Kinds.{row_for, pattern}
+use Rattle.forms.specs.Kinds.{row_for}
 use Rattle.forms.specs.Stack.{pending}
 use Rattle.forms.specs.Lists.{left, first_is}
 use Rattle.forms.specs.Depth.{is_level, settle, read_one, expect, enter, flat_depths, first_deep_in, Small}
@@ -24,13 +29,36 @@ use Rattle.forms.proofs.TestLaws.{true_and, false_and}
 use Rattle.forms.proofs.ListLaws.{left-more, left-none, left-all}
 use Rattle.forms.proofs.StackLaws.{pending-set, pending_push, length-pending}
 
-pub level-pattern : (k f : ℕ) (w : Row) → w ≡ row_for k f → w.sort ≡ 1 → true ≡ is_level (row_for k f).sort
-unfolding is_level
-level-pattern k f w e h = rw (← e, eq-eqb w.sort pattern h)
+pub sort_level : (k f : ℕ) (w : Row) (s : Sort) (b : Bool) → columns_of w ≡ row_for k f → w.sort ≡ Some s → b ≡ is_level (number s) → b ≡ is_level (row_for k f).sort
+sort_level k f w s b e h g = rw (← e, h) g
 
-pub level-other : (k f : ℕ) (w : Row) → w ≡ row_for k f → (w.sort ≡ 1 → ⊥) → eqb w.sort 2 ≡ is_level (row_for k f).sort
+pub no_level : (k f : ℕ) (w : Row) → columns_of w ≡ row_for k f → w.sort ≡ None → false ≡ is_level (row_for k f).sort
 unfolding is_level
-level-other k f w e h = rw (← e, ne_eqb w.sort pattern h)
+no_level k f w e h = rw (← e, h)
+
+pub a_level : (s : Sort) → s ≡ Pattern → true ≡ is_level (number s)
+unfolding is_level
+a_level s e = rw e
+
+pub an_expression : (s : Sort) → s ≡ Expression → true ≡ is_level (number s)
+unfolding is_level
+an_expression s e = rw e
+
+pub no_level_sort : (s : Sort) → (s ≡ Pattern → ⊥) → (s ≡ Expression → ⊥) → false ≡ is_level (number s)
+unfolding is_level
+no_level_sort Pattern p q = absurd (p refl)
+no_level_sort Expression p q = absurd (q refl)
+no_level_sort LetDef p q = refl
+no_level_sort Ident p q = refl
+no_level_sort Definition p q = refl
+no_level_sort TypeValue p q = refl
+no_level_sort Variant p q = refl
+no_level_sort Fields p q = refl
+no_level_sort StructField p q = refl
+no_level_sort TupleField p q = refl
+no_level_sort AttrKind p q = refl
+no_level_sort Priority p q = refl
+no_level_sort IfLet p q = refl
 
 -- ---- leaving levels that expect nothing
 
@@ -45,17 +73,19 @@ settle_keeps zero ns h = absurd (h refl)
 settle_keeps (suc n) ns h = refl
 
 module _ (s : List ℕ) (d : ℕ) (x : List ℕ) (inv : settle (pending s d) ≡ x) where
-  pub settle_stop : (d ≡ 0 → ⊥) → (get_or s (d - 1) 0 ≡ 0 → ⊥) → pending s d ≡ x
+  pub settle_stop : 0 < d → (get_or s (d - 1) 0 ≡ 0 → ⊥) → pending s (d - 1 + 1) ≡ x
   settle_stop h k =
-      pending_top s d h ∙ sym (settle_keeps (get_or s (d - 1) 0) (pending s (d - 1)) k) ∙ ap settle (sym (pending_top s d h)) ∙ inv
+      let e : d - 1 + 1 ≡ d = omega arith in
+      let g : d ≡ 0 → ⊥ = λ q. omega arith in
+      rw e (pending_top s d g ∙ sym (settle_keeps (get_or s (d - 1) 0) (pending s (d - 1)) k) ∙ ap settle (sym (pending_top s d g)) ∙ inv)
 
-  pub settle-more : (d ≡ 0 → ⊥) → get_or s (d - 1) 0 ≡ 0 → settle (pending s (d - 1)) ≡ x
+  pub settle_more : 0 < d → get_or s (d - 1) 0 ≡ 0 → settle (pending s (d - 1)) ≡ x
   unfolding settle
-  settle-more h k = rw (pending_top s d h, k) at inv
+  settle_more h k = rw (pending_top s d (λ q. omega arith), k) at inv
 
-  pub settle-end : d ≡ 0 → pending s d ≡ x
+  pub settle_end : d ≤ 0 → pending s 0 ≡ x
   unfolding settle pending
-  settle-end e = rw e (rw e at inv)
+  settle_end h = let e : d ≡ 0 = omega arith in rw e at inv
 
 -- ---- no level expects too much
 
@@ -85,9 +115,9 @@ small-enter false a b c (n ∷ ns) h p = let q : n ≤ a = p.0 in (omega arith, 
 pub not_too_deep : (l b : Bool) (d : ℕ) → b ≡ (l and eqb d 64) → b ≡ false → (l and eqb d 64) ≡ false
 not_too_deep l b d e f = sym e ∙ f
 
-pub small-start : (s : List ℕ) → Small (65536 * 0) (pending s 0)
+pub small_start : (s : List ℕ) → Small (65536 * 0) (pending s 0)
 unfolding Small pending
-small-start s = tt
+small_start s = tt
 
 pub small_now : (s list : List ℕ) (i n depth d : ℕ) → pending s d ≡ settle (pending s depth) → Small (65536 * i) (pending s depth) → n ≡ slots list → i < n → slots list ≤ 65536 → Small 4294967296 (pending s d)
 small_now s list i n depth d e p q h k = rw e (small_wide (65536 * i) 4294967296 _ (omega arith) (small-settle (65536 * i) (pending s depth) p))
@@ -115,20 +145,20 @@ unfolding expect
 zero_more [] = refl
 zero_more (n ∷ ns) = ap (◌∷ ns) (add-zero n)
 
-pub enter-level : (s s₁ : List ℕ) (d c : ℕ) → pending s₁ d ≡ expect 0 (read_one (pending s d)) → d < length s → length s₁ ≡ length s → pending (set s₁ d c) (d + 1) ≡ c ∷ read_one (pending s d)
-enter-level s s₁ d c e h k = pending_push s₁ d c (omega arith) ∙ ap (c ∷◌) (e ∙ zero_more (read_one (pending s d)))
+pub enter_level : (s s₁ : List ℕ) (d c : ℕ) → pending s₁ d ≡ expect 0 (read_one (pending s d)) → d < length s → length s₁ ≡ length s → pending (set s₁ d c) (d + 1) ≡ c ∷ read_one (pending s d)
+enter_level s s₁ d c e h k = pending_push s₁ d c (omega arith) ∙ ap (c ∷◌) (e ∙ zero_more (read_one (pending s d)))
 
 -- ---- a level is entered, or not
 
-pub deep-level : (l : Bool) (d : ℕ) → l ≡ true → eqb d 64 ≡ (l and eqb d 64)
-deep-level l d e = rw (e, true_and)
+pub deep_level : (l : Bool) (d : ℕ) → l ≡ true → eqb d 64 ≡ (l and eqb d 64)
+deep_level l d e = rw (e, true_and)
 
-pub deep-plain : (l : Bool) (d : ℕ) → l ≡ false → false ≡ (l and eqb d 64)
-deep-plain l d e = rw (e, false_and)
+pub deep_plain : (l : Bool) (d : ℕ) → l ≡ false → l ≡ (l and eqb d 64)
+deep_plain l d e = rw (e, false_and)
 
 pub step_room : (l : Bool) (d n : ℕ) → l ≡ true → (l and eqb d 64) ≡ false → d ≤ 64 → 64 ≤ n → d < n
 step_room l d n e f h k =
-    let g : d ≡ 64 → ⊥ = eqb-false d 64 (deep-level l d e ∙ f) in
+    let g : d ≡ 64 → ⊥ = eqb-false d 64 (deep_level l d e ∙ f) in
     omega arith
 
 pub step_top : (l : Bool) (d : ℕ) → l ≡ true → (l and eqb d 64) ≡ false → d ≤ 64 → d + 1 ≤ 64
@@ -144,9 +174,9 @@ step_plain l c ns out e f = e ∙ rw f
 
 -- ---- turns of the loop
 
-pub deep-start : (list counts : List ℕ) → 0 + first_is 65 (flat_depths (pending counts 0) (left list 0)) ≡ first_deep_in (recs list)
+pub deep_start : (list counts : List ℕ) → 0 + first_is 65 (flat_depths (pending counts 0) (left list 0)) ≡ first_deep_in (recs list)
 unfolding pending
-deep-start list counts = rw (left-all list) (zero-add _)
+deep_start list counts = rw (left-all list) (zero-add _)
 
 first_not : (x : ℕ) (xs : List ℕ) → (x ≡ 65 → ⊥) → first_is 65 (x ∷ xs) ≡ suc (first_is 65 xs)
 unfolding first_is
@@ -174,8 +204,8 @@ module _ (list counts : List ℕ) (depth d i n f : ℕ) (r : Rec) (l b : Bool)
       let h : i < slots list = omega arith in
       rw (left-more list i h, ← read, ← level, ← open-levels, length-pending counts d)
 
-  pub deep-here : b ≡ true → i ≡ f
-  deep-here e =
+  pub deep_here : b ≡ true → i ≡ f
+  deep_here e =
       let z : first_is 65 (flat_depths (pending counts depth) (left list i)) ≡ 0 = rw turn (first-is (pick l (suc d) 0) _ (is-deep l d (sym judged ∙ e))) in
       omega arith
 
@@ -185,9 +215,9 @@ module _ (list counts : List ℕ) (depth d i n f : ℕ) (r : Rec) (l b : Bool)
       rw (turn, q) (first_not (pick l (suc d) 0) _ (not_deep l d (sym judged ∙ e))) in
       omega arith
 
-pub deep-end : (list counts : List ℕ) (depth i n f : ℕ) → i + first_is 65 (flat_depths (pending counts depth) (left list i)) ≡ f → n ≡ slots list → n ≤ i → i ≡ f
+pub deep_end : (list counts : List ℕ) (depth i n f : ℕ) → i + first_is 65 (flat_depths (pending counts depth) (left list i)) ≡ f → n ≡ slots list → n ≤ i → i ≤ n → n ≡ f
 unfolding flat_depths first_is
-deep-end list counts depth i n f inv all h =
+deep_end list counts depth i n f inv all h l =
     let k : slots list ≤ i = omega arith in
     let z : first_is 65 (flat_depths (pending counts depth) (left list i)) ≡ 0 = rw (left-none list i k) in
     omega arith

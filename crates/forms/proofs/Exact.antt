@@ -12,7 +12,7 @@ use Rattle.trees.specs.declared.Rec.{Rec}
 use Rattle.trees.specs.Choice.{pick}
 use Rattle.trees.specs.Tree.{Tree, Trees, node, ∅, ◌▸◌, ◌⧺◌, count, firsts, others, records, records_all, trees_of, record_of}
 use Rattle.trees.proofs.Laws.{records_all_⧺, records_all-one, records_all_injective, records_injective}
-use Rattle.forms.specs.declared.Row.{Row}
+use Rattle.forms.specs.Kinds.{Columns}
 use Rattle.forms.specs.Kinds.{none, row_for}
 use Rattle.forms.specs.Forms.{one, run, some, singles, leading, sorts_of, children, stands, good, is_nil, next, rest, of_sort, of_sorts, OfKind, AllOfKind, fits, is_one, is_many}
 use Rattle.forms.proofs.TestLaws.{both, true_and, and_false}
@@ -32,13 +32,13 @@ unfolding run
 length_run s p zero = refl
 length_run s p (suc n) = ap suc (length_run s (suc p) n)
 
-pub length-sorts_of : (w : Row) (c : ℕ) → singles w ≤ c → length (sorts_of w c) ≡ c
+pub length-sorts_of : (w : Columns) (c : ℕ) → singles w ≤ c → length (sorts_of w c) ≡ c
 unfolding sorts_of leading singles
 length-sorts_of w c h =
     simp (length-append, length-one, length_run) (omega arith)
 
 -- what a record that may stand says
-pub enough : (t s : ℕ) (w : Row) (r : Rec) → stands t s w r ≡ true → singles w ≤ r.count
+pub enough : (t s : ℕ) (w : Columns) (r : Rec) → stands t s w r ≡ true → singles w ≤ r.count
 unfolding stands
 enough t s w r e = leb-true (singles w) r.count (both (both (both (both (both e).1).1).1).1).1
 

@@ -13,7 +13,7 @@ use Rattle.trees.specs.Choice.{pick}
 use Rattle.trees.specs.declared.Head.{Head}
 use Rattle.trees.specs.Tree.{Trees, node, count, record_of}
 use Rattle.records.specs.Slots.{slots, rec_at, recs}
-use Rattle.forms.specs.declared.Row.{Row}
+use Rattle.forms.specs.Kinds.{Columns}
 use Rattle.forms.specs.Tests.{◌and◌}
 use Rattle.forms.specs.Kinds.{Entry, none, name, range, tuple_field, rows, find, row_for}
 use Rattle.forms.specs.Forms.{placed, one, run, singles, leading, sorts_of, children, words_ok, stands, good, next, rest, of_sort, of_sorts, fits}
@@ -104,7 +104,7 @@ pub record NamedAt (t : ℕ) (list : List ℕ) (i : ℕ) : Type 0 where
   pub ident : (rec_at list (i + 1)).kind ≡ 24
   pub inside : (rec_at list (i + 1)).word1 / 4294967296 + (rec_at list (i + 1)).word1 % 4294967296 ≤ t
 
-name-first : (w : Row) (c : ℕ) → w.first ≡ name → (l : List ℕ) × (sorts_of w c ≡ name ∷ l)
+name-first : (w : Columns) (c : ℕ) → w.first ≡ name → (l : List ℕ) × (sorts_of w c ≡ name ∷ l)
 unfolding sorts_of leading one
 name-first w c e = (one w.second ++ one w.third ++ (run w.any 0 (c - singles w) ++ one w.last), rw e)
 

@@ -1,17 +1,19 @@
 -- Passing trees, and the first MacroArg: on trees, over a list, and the ways through the loops. Assumes nothing.
 use mathlib.Core.Path.{◌≡◌, refl, ap, ap₂, sym, ◌∙◌}
 use mathlib.Core.List.{List, [], ◌∷◌, ◌++◌, append_assoc}
-use Prim.Native.Nat.{ℕ, zero, suc, ◌+◌, ◌-◌, ◌≤◌, ◌<◌}
-use native.Mathlib.Nat.{zero-add, suc-add}
+use Prim.Native.Nat.{ℕ, zero, suc, ◌+◌, ◌-◌, ◌≤◌, ◌<◌, max}
+use native.Mathlib.Nat.{zero-add, add-zero, suc-add}
 use native.Mathlib.Omega.{arith}
-use lib.Dec.{eqb}
+use lib.Dec.{eqb, leb}
 use lib.ListN.{length, length-append}
-use borrow.Author.Tests.{eq-eqb, ne_eqb}
+use borrow.Author.Tests.{leb-true, leb-false}
+use mathlib.Core.Bool.{Bool, true, false}
+use Rattle.std.specs.Prelude.{Option, Some, None, unwrap_or}
 use Rattle.trees.specs.declared.Rec.{Rec}
 use Rattle.trees.specs.Choice.{pick}
 use Rattle.trees.specs.Tree.{Tree, Trees, node, ∅, ◌▸◌, count, records, records_all}
 use Rattle.records.specs.Slots.{slots, rec_at, recs}
-use Rattle.forms.specs.Lists.{left, skip, first_is, kinds, kinds_all, kinds_of, macro_arg, first_macro_arg}
+use Rattle.forms.specs.Lists.{left, skip, FirstToPass, first_of, first_is, kinds, kinds_all, kinds_of, macro_arg, first_macro_arg}
 use Rattle.forms.proofs.ListLaws.{left-more, left-none, left-all}
 
 -- ---- passing trees
@@ -44,15 +46,8 @@ skip-row ts rs =
     (rw z at (skip-trees ts 0 rs)) ∙ omega (arith, skip-none rs)
 
 module _ (list : List ℕ) (i m f : ℕ) (inv : i + skip m (left list i) ≡ f) where
-  pub skip-done : m ≡ 0 → i ≡ f
-  skip-done e = let z : skip m (left list i) ≡ 0 = rw e (skip-none (left list i)) in omega arith
-
-  pub skip_past : (n : ℕ) → n ≡ slots list → n ≤ i → i ≡ f
-  unfolding skip
-  skip_past n e h =
-      let k : slots list ≤ i = omega arith in
-      let z : skip m (left list i) ≡ 0 = rw (left-none list i k) in
-      omega arith
+  pub skip_done : m ≡ 0 → i ≡ f
+  skip_done e = let z : skip m (left list i) ≡ 0 = rw e (skip-none (left list i)) in omega arith
 
   pub skip_again : (n : ℕ) (r : Rec) → r ≡ rec_at list i → n ≡ slots list → i < n → (m ≡ 0 → ⊥) → i + 1 + skip (m - 1 + r.count) (left list (i + 1)) ≡ f
   unfolding skip
@@ -66,6 +61,18 @@ module _ (list : List ℕ) (i m f : ℕ) (inv : i + skip m (left list i) ≡ f) 
       go (suc p) z d =
           let o : m - 1 ≡ p = omega arith in
           rw o (omega (arith, turn p d))
+
+-- behind the list nothing is passed
+pub skip_ended : (list : List ℕ) (at n end i m f : ℕ) → i + skip m (left list i) ≡ at + skip n (left list at) → end ≡ slots list → end ≤ i → (at ≤ end → i ≤ end) → f ≡ max at end → f ≡ at + skip n (left list at)
+unfolding skip
+skip_ended list at n end i m f inv all h k e = go (leb end at) refl
+  where
+    gone : (j p : ℕ) → slots list ≤ j → skip p (left list j) ≡ 0
+    gone j p l = rw (left-none list j l)
+
+    go : (b : Bool) → leb end at ≡ b → f ≡ at + skip n (left list at)
+    go true q = omega (arith, leb-true end at q, gone at n (omega (arith, leb-true end at q)))
+    go false q = omega (arith, leb-false end at q, gone i m (omega arith), k (omega (arith, leb-false end at q)))
 
 -- ---- the first MacroArg
 
@@ -88,20 +95,32 @@ mutual
 pub macro_arg_agrees : (ts : Trees) (rs : List Rec) → records_all ts ≡ rs → first_macro_arg rs ≡ first_is macro_arg (kinds_all ts)
 macro_arg_agrees ts rs e = ap first_macro_arg (sym e) ∙ ap (first_is macro_arg) (kinds-trees ts)
 
-pub arg_start : (list : List ℕ) → 0 + first_macro_arg (left list 0) ≡ first_macro_arg (recs list)
-arg_start list = rw (left-all list) (zero-add _)
+-- ---- the first record that passes a test, by what a closure answers at each
 
-module _ (list : List ℕ) (i n f : ℕ) (inv : i + first_macro_arg (left list i) ≡ f) (all : n ≡ slots list) where
-  arg_turn : (r : Rec) → r ≡ rec_at list i → i < n → first_macro_arg (left list i) ≡ pick (eqb r.kind macro_arg) 0 (suc (first_macro_arg (left list (i + 1))))
-  unfolding first_is kinds_of
-  arg_turn r e h = let l : i < slots list = omega arith in rw (left-more list i l, e)
+module _ (test : Rec → Bool) (l : List ℕ) where
+  passed : (i k : ℕ) → k + i ≡ slots l → ((j : ℕ) → j < slots l → test (rec_at l j) ≡ false) → first_of test (left l i) ≡ slots l - i
+  unfolding first_of
+  passed i zero e h = let z : slots l - i ≡ 0 = omega arith in rw (left-none l i (omega arith), z)
+  passed i (suc k) e h =
+      let z : slots l - i ≡ suc (slots l - (i + 1)) = omega arith in
+      rw (left-more l i (omega arith), h i (omega arith), z) (ap suc (passed (i + 1) k (omega arith) h))
 
-  pub arg_here : (r : Rec) → r ≡ rec_at list i → i < n → r.kind ≡ 38 → i ≡ f
-  arg_here r e h k = omega (arith, rw (eq-eqb r.kind macro_arg k) at (arg_turn r e h))
+  found : (i k n : ℕ) → k + i ≡ n → n < slots l → test (rec_at l n) ≡ true → ((j : ℕ) → j < n → test (rec_at l j) ≡ false) → first_of test (left l i) ≡ n - i
+  unfolding first_of
+  found i zero n e h t f = let z : n - i ≡ 0 = omega arith in let y : i ≡ n = omega arith in rw (left-more l i (omega arith), z, y, t)
+  found i (suc k) n e h t f =
+      let z : n - i ≡ suc (n - (i + 1)) = omega arith in
+      rw (left-more l i (omega arith), f i (omega arith), z) (ap suc (found (i + 1) k n (omega arith) h t f))
 
-  pub arg_again : (r : Rec) → r ≡ rec_at list i → i < n → (r.kind ≡ 38 → ⊥) → i + 1 + first_macro_arg (left list (i + 1)) ≡ f
-  arg_again r e h k = omega (arith, rw (ne_eqb r.kind macro_arg k) at (arg_turn r e h))
+  pub first_where : (P : Rec → Bool → Type 0) (o : Option ℕ) → FirstToPass P l o → ((r : Rec) (b : Bool) → P r b → b ≡ test r) → unwrap_or o (slots l) ≡ first_of test (recs l)
+  first_where P None f k =
+      let z : slots l - 0 ≡ slots l = omega arith in
+      sym (rw (left-all l, z) at (passed 0 (slots l) (add-zero _) (λ j h. sym (k _ _ (f.nowhere j h)))))
+  first_where P (Some i) f k =
+      let z : i - 0 ≡ i = omega arith in
+      sym (rw (left-all l, z) at (found 0 i i (add-zero _) f.inside (sym (k _ _ f.here)) (λ j h. sym (k _ _ (f.before j h)))))
 
-  pub arg_end : n ≤ i → i ≡ f
-  unfolding first_is kinds_of
-  arg_end h = let k : slots list ≤ i = omega arith in let z : first_macro_arg (left list i) ≡ 0 = rw (left-none list i k) in omega arith
+pub first_kind : (v : ℕ) (rs : List Rec) → first_of (λ r. eqb r.kind v) rs ≡ first_is v (kinds_of rs)
+unfolding first_of first_is kinds_of
+first_kind v [] = refl
+first_kind v (r ∷ rs) = ap (λ (n : ℕ). pick (eqb r.kind v) 0 (suc n)) (first_kind v rs)

@@ -1,52 +1,41 @@
--- The table of numbers has the rows of the kinds; a kind past its end has none. Assumes nothing.
-use mathlib.Core.Path.{◌≡◌, refl, ap, sym, ◌∙◌}
+-- The code's table has the rows of the kinds; a kind past its end has none. Assumes nothing.
+use mathlib.Core.Path.{◌≡◌, refl, sym, ◌∙◌}
 use mathlib.Core.Bool.{Bool, true}
 use mathlib.Core.List.{List, [], ◌∷◌}
-use Prim.Native.Nat.{ℕ, zero, suc, ◌+◌, ◌-◌, ◌*◌, ◌≤◌, ◌<◌}
-use native.Mathlib.Nat.{add-zero}
+use Prim.Native.Nat.{ℕ, zero, suc, ◌+◌, ◌-◌, ◌≤◌, ◌<◌}
 use native.Mathlib.Omega.{arith}
-use lib.ListN.{get_or, get_or-append}
-use lib.Seq.{get_or-append-add}
+use lib.ListN.{get_or}
 use lib.Dec.{eqb, ltb}
 use borrow.Author.Tests.{ltb-true, ne_eqb, lt-ltb, le-ltb}
 use Rattle.trees.specs.Choice.{pick}
-use Rattle.forms.specs.declared.Row.{Row}
 use Rattle.forms.specs.Tests.{◌and◌}
-use Rattle.forms.specs.Kinds.{Entry, columns, nobody, rows, find, row_for}
-use Rattle.forms.specs.Table.{kinds_end, row_at, numbers, numbers_from, table}
+use Rattle.forms.specs.declared.Row.{Row}
+use Rattle.forms.specs.declared.table.TheConstants.{ROWS}
+use Rattle.forms.specs.Kinds.{Columns, Entry, nobody, rows, find, row_for}
+use Rattle.forms.specs.Table.{kinds_end, row_at, rows_from, table, columns_of}
 use Rattle.forms.proofs.TestLaws.{both, false_and, and_false}
 
--- ---- a row's numbers stand at nine times its index
+-- ---- the code's rows are those of the kinds, one by one
 
-cell : (n i m j q : ℕ) → i < n → j < 9 → q ≡ m + i → get_or (numbers_from m n) (9 * i + j) 0 ≡ get_or (numbers (row_at q)) j 0
-unfolding numbers_from numbers
-cell zero i m j q h k e = absurd (omega arith)
-cell (suc n) zero m j q h k e =
-    let z : 9 * 0 + j ≡ j = omega arith in
-    let y : m ≡ q = omega arith in
-    ap (λ (x : ℕ). get_or (numbers_from m (suc n)) x 0) z
-    ∙ get_or-append (numbers (row_at m)) (numbers_from (suc m) n) 0 j k
-    ∙ ap (λ (x : ℕ). get_or (numbers (row_at x)) j 0) y
-cell (suc n) (suc i) m j q h k e =
-    let z : 9 * suc i + j ≡ 9 + (9 * i + j) = omega arith in
-    ap (λ (x : ℕ). get_or (numbers_from m (suc n)) x 0) z
-    ∙ get_or-append-add (numbers (row_at m)) (numbers_from (suc m) n) (9 * i + j) 0
-    ∙ cell n i (suc m) j q (omega arith) k (omega arith)
+abbrev all_columns : List Row → List Columns
+all_columns [] = []
+all_columns (w ∷ ws) = columns_of w ∷ all_columns ws
 
-abbrev pub row_in : List ℕ → ℕ → Row
-row_in l k = columns (get_or l k 0) (get_or l (k + 1) 0) (get_or l (k + 2) 0) (get_or l (k + 3) 0) (get_or l (k + 4) 0) (get_or l (k + 5) 0) (get_or l (k + 6) 0) (get_or l (k + 7) 0) (get_or l (k + 8) 0)
+rows_are : all_columns ROWS ≡ table
+unfolding table rows_from row_at find rows ◌and◌
+rows_are = refl
 
-again : (w : Row) → columns w.sort w.flags w.position w.words w.first w.second w.third w.any w.last ≡ w
-again w = refl
+cell : (ws : List Row) (n m i q : ℕ) (d : Row) → all_columns ws ≡ rows_from m n → i < n → q ≡ m + i → columns_of (get_or ws i d) ≡ row_at q
+unfolding rows_from
+cell [] zero m i q d e h k = absurd (omega arith)
+cell [] (suc n) m i q d e h k = absurd (cc)
+cell (w ∷ ws) zero m i q d e h k = absurd (omega arith)
+cell (w ∷ ws) (suc n) m zero q d e h k = let y : m ≡ q = omega arith in rw (← y) (cc)
+cell (w ∷ ws) (suc n) m (suc i) q d e h k = cell ws n (suc m) i q d (cc) (omega arith) (omega arith)
 
-same_row : (l : List ℕ) (k : ℕ) (w : Row) → ((j : ℕ) → j < 9 → get_or l (k + j) 0 ≡ get_or (numbers w) j 0) → row_in l k ≡ w
-unfolding numbers
-same_row l k w e =
-    cc (rw (add-zero k) at (e 0 (omega arith)), e 1 (omega arith), e 2 (omega arith), e 3 (omega arith), e 4 (omega arith), e 5 (omega arith), e 6 (omega arith), e 7 (omega arith), e 8 (omega arith), again w)
-
-pub table-row : (l : List ℕ) (i : ℕ) → l ≡ table → i < 4 + kinds_end → row_in l (9 * i) ≡ row_at i
+pub table-row : (i k f : ℕ) (d : Row) → i < 4 + kinds_end → row_at i ≡ row_for k f → columns_of (get_or ROWS i d) ≡ row_for k f
 unfolding table
-table-row l i e h = rw e (same_row (numbers_from 0 (4 + kinds_end)) (9 * i) (row_at i) (λ j k. cell (4 + kinds_end) i 0 j i h k (omega arith)))
+table-row i k f d h r = cell ROWS (4 + kinds_end) 0 i i d rows_are h (omega arith) ∙ r
 
 -- ---- which row a record has
 
@@ -96,6 +85,3 @@ row_past k f h = row-none ∙ sym (absent_kind k (pick (eqb k 20) f 0) rows h al
 pub row_bad_flags : (k f : ℕ) → k ≡ 20 → 4 ≤ f → row_at 4 ≡ row_for k f
 unfolding row_for
 row_bad_flags k f n h = row-none ∙ sym (rw n (absent_flags 20 f rows h all_in))
-
-pub row-found : (i k f : ℕ) (w : Row) → row_at i ≡ row_for k f → w ≡ row_at i → w ≡ row_for k f
-row-found i k f w e d = d ∙ e

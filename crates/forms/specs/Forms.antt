@@ -4,9 +4,8 @@ use Rattle.std.specs.Prelude.{ℕ, zero, suc, ◌+◌, ◌-◌, ◌*◌, ◌/◌
 use Rattle.trees.specs.declared.Rec.{Rec}
 use Rattle.trees.specs.Choice.{pick}
 use Rattle.trees.specs.Tree.{Tree, Trees, node, ∅, ◌▸◌, count, record_of}
-use Rattle.forms.specs.declared.Row.{Row}
 use Rattle.forms.specs.Tests.{◌and◌}
-use Rattle.forms.specs.Kinds.{none, tuple_field, index, integer, range, row_for}
+use Rattle.forms.specs.Kinds.{Columns, none, tuple_field, index, integer, range, row_for}
 
 -- the sort s at the place p among its parent's children
 unfoldable pub placed : ℕ → ℕ → ℕ
@@ -25,15 +24,15 @@ unfoldable pub some : ℕ → ℕ
 some s = pick (eqb s none) 0 1
 
 -- how many single children a row has
-unfoldable pub singles : Row → ℕ
+unfoldable pub singles : Columns → ℕ
 singles w = some w.first + some w.second + some w.third + some w.last
 
 -- the single children that come first
-unfoldable pub leading : Row → List ℕ
+unfoldable pub leading : Columns → List ℕ
 leading w = one w.first ++ (one w.second ++ one w.third)
 
 -- the sorts of c children, first to last
-unfoldable pub sorts_of : Row → ℕ → List ℕ
+unfoldable pub sorts_of : Columns → ℕ → List ℕ
 sorts_of w c = leading w ++ (run w.any 0 (c - singles w) ++ one w.last)
 
 abbrev pub children : Rec → List ℕ
@@ -42,10 +41,6 @@ children r = sorts_of (row_for r.kind r.flags) r.count
 unfoldable pub position_ok : ℕ → ℕ → Bool
 position_ok p x = pick (eqb p 0) (eqb x 0) true
 
--- how far a range in word 1 may reach where the text has t bytes: to its end, or there is none
-unfoldable pub reach : ℕ → ℕ → ℕ
-reach t w = pick (eqb w range) t 0
-
 -- words 1 and 2 where the text has t bytes
 unfoldable pub words_ok : ℕ → ℕ → ℕ → ℕ → Bool
 words_ok t w a b =
@@ -53,7 +48,7 @@ words_ok t w a b =
     (eqb b 0 and pick (eqb w index) true (pick (eqb w range) (leb (a / 4294967296 + a % 4294967296) t) (eqb a 0)))
 
 -- whether a record with the row w may stand where the sort s is expected
-unfoldable pub stands : ℕ → ℕ → Row → Rec → Bool
+unfoldable pub stands : ℕ → ℕ → Columns → Rec → Bool
 stands t s w r =
     ltb 0 s and (eqb s (placed w.sort r.word1) and (ltb r.flags w.flags
     and (position_ok w.position r.pos and (words_ok t w.words r.word1 r.word2 and leb (singles w) r.count))))

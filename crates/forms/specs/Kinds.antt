@@ -1,9 +1,8 @@
 -- The kinds of records, one row each: document 01, 'Definition records' and 'Pattern and expression records'.
--- One more kind is one more row here and one more line of numbers in the code (and the end of the kinds, in both).
+-- One more kind is one more row here and one more in the code's table (and the end of the kinds, in both).
 use Rattle.std.specs.Prelude.{ℕ, List, [], ◌∷◌, eqb}
 use Rattle.trees.specs.Choice.{pick}
 use Rattle.forms.specs.Tests.{◌and◌}
-use Rattle.forms.specs.declared.Row.{Row}
 
 -- ---- sorts: what may stand in a place
 
@@ -87,14 +86,26 @@ range = 3
 
 -- ---- rows
 
+-- What the records of a kind look like.
+pub record Columns : Type 0 where
+  pub sort : ℕ
+  pub flags : ℕ
+  pub position : ℕ
+  pub words : ℕ
+  pub first : ℕ
+  pub second : ℕ
+  pub third : ℕ
+  pub any : ℕ
+  pub last : ℕ
+
 -- A row is found by the kind, and a Rule's also by its flags, because its children follow them.
 pub record Entry : Type 0 where
   pub kind : ℕ
   pub by_flags : ℕ
-  pub row : Row
+  pub row : Columns
 
 -- sort, flags, position, words; then the children: three single ones, any number of a sort, a last one (none: there is no such child)
-abbrev pub columns : ℕ → ℕ → ℕ → ℕ → ℕ → ℕ → ℕ → ℕ → ℕ → Row
+abbrev pub columns : ℕ → ℕ → ℕ → ℕ → ℕ → ℕ → ℕ → ℕ → ℕ → Columns
 columns s f p w a b c m z =
     record { sort = s; flags = f; position = p; words = w; first = a; second = b; third = c; any = m; last = z }
 
@@ -192,13 +203,13 @@ rows =
     ∷ []
 
 -- what no kind has: no flags are allowed, not even 0
-abbrev pub nobody : Row
+abbrev pub nobody : Columns
 nobody = columns none 0 no_pos empty none none none none none
 
-unfoldable pub find : ℕ → ℕ → List Entry → Row
+unfoldable pub find : ℕ → ℕ → List Entry → Columns
 find k v [] = nobody
 find k v (e ∷ es) = pick (eqb e.kind k and eqb e.by_flags v) e.row (find k v es)
 
 -- the row of a record with the kind k and the flags f
-unfoldable pub row_for : ℕ → ℕ → Row
+unfoldable pub row_for : ℕ → ℕ → Columns
 row_for k f = find k (pick (eqb k 20) f 0) rows

@@ -1,5 +1,6 @@
 pub mod Tests
 pub mod Kinds
+pub mod Sorts
 pub mod Table
 pub mod Forms
 pub mod Lists

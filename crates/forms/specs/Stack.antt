@@ -24,10 +24,12 @@ pub record VarTaken (below left s : ℕ) (r : Rec) (b : Bool) : Type 0 where
   pub child : b ≡ true → children r ≡ name ∷ []
   pub room : b ≡ true → below < left
 
--- the record r was taken where the sort s is expected, with `left` records after it: its children are on the stack a, which is b then;
--- or y is more than any top, and whatever those records are, r and they do not fit
-pub record Taken (t s : ℕ) (r : Rec) (below left : ℕ) (a b : List ℕ) (y : ℕ) : Type 0 where
-  pub stands : y ≤ 65536 → good t s r ≡ true
-  pub pushed : y ≤ 65536 → Pushed a b below y (children r)
-  pub inside : y ≤ 65536 → y ≤ left
-  pub refused : 65536 < y → (base : ℕ) (rs : List Rec) → length rs ≡ left → (good t s r and fits t base (children r ++ pending a below) rs) ≡ false
+-- the record r was taken where the sort s is expected, with `left` records after it: its children are on the stack a, which is b then
+pub record Taken (t s : ℕ) (r : Rec) (below left : ℕ) (a b : List ℕ) (top : ℕ) : Type 0 where
+  pub stands : good t s r ≡ true
+  pub pushed : Pushed a b below top (children r)
+  pub inside : top ≤ left
+
+-- whatever the `left` records after it are, r and they do not fit
+pub record Refused (t s : ℕ) (r : Rec) (below left : ℕ) (a : List ℕ) : Type 0 where
+  pub unfit : (base : ℕ) (rs : List Rec) → length rs ≡ left → (good t s r and fits t base (children r ++ pending a below) rs) ≡ false

@@ -1,41 +1,45 @@
-// Passing trees, and the first MacroArg: one pass each.
-ghost use Rattle.std.specs.Prelude.{◌≡◌, ◌+◌, ◌≤◌};
+// Passing trees, and the first record of a kind: one pass each.
+ghost use Rattle.std.specs.Prelude.{◌≡◌, ◌+◌, ◌≤◌, ◌<◌, unwrap_or, IfSome};
 ghost use Rattle.records.specs.Slots.{slots, recs};
-ghost use Rattle.forms.specs.Lists.{left, skip, first_macro_arg};
+ghost use Rattle.forms.specs.Lists.{left, skip, first_macro_arg, FirstToPass};
 
 use records::{rec_at, slots};
+use trees::{Kind, Rec};
 
 // The index after the n trees that start at the index `at`.
 pub fn skip(list: &[u8], at: usize, n: usize) -> usize
-    requires { (slots list.now ≤ 65536) × (n ≤ 65536) }
+    requires few { slots list.now ≤ 65536 }
+    requires few_trees { n ≤ 65536 }
     ensures { result ≡ at + skip n (left list.now at) }
 {
     let end = slots(list);
     let mut trees = n;
-    let mut i = at;
-    while i < end {
+    for i in at..end {
         if trees == 0 {
             return i;
         }
-        let r = rec_at(list, i);
-        trees = trees - 1 + r.count as usize;
-        i += 1;
+        trees = trees - 1 + rec_at(list, i).count as usize;
     }
-    i
+    at.max(end)
 }
 
-// The index of the first MacroArg, or the number of records.
-pub fn first_macro_arg(list: &[u8]) -> usize
-    ensures { result ≡ first_macro_arg (recs list.now) }
+// The index of the first record that passes a test.
+pub fn first_where<F: Fn(Rec) -> bool>(list: &[u8], test: F) -> Option<usize>
+    requires { F.IsAlwaysCallable test }
+    ensures { FirstToPass (F.post test) list.now result }
 {
-    let end = slots(list);
-    let mut i = 0;
-    while i < end {
-        let r = rec_at(list, i);
-        if r.kind == 38 {
-            return i;
+    for i in 0..slots(list) {
+        if test(rec_at(list, i)) {
+            return Some(i);
         }
-        i += 1;
     }
-    i
+    None
+}
+
+// The index of the first MacroArg.
+pub fn first_macro_arg(list: &[u8]) -> Option<usize>
+    ensures inside { IfSome result (λ i. i < slots list.now) }
+    ensures first { unwrap_or result (slots list.now) ≡ first_macro_arg (recs list.now) }
+{
+    first_where(list, |r| r.kind == Kind::PatternMacroArg as u8)
 }

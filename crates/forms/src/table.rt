@@ -1,79 +1,142 @@
-// The table of kinds in numbers, nine to a row: the columns of `Row`, first to last.
-// A Rule's rows by its flags 0 to 3 come first, then those of the kinds from 0 on.
+// The table of kinds, a row for each kind: the columns of `Row`, first to last, in the words of specs/Kinds.antt.
 ghost use Rattle.std.specs.Prelude.{◌≡◌, ◌+◌, ◌<◌};
 ghost use Rattle.forms.specs.Kinds.{row_for};
-ghost use Rattle.forms.specs.Table.{kinds_end, row_at, table};
+ghost use Rattle.forms.specs.Table.{kinds_end, row_at, columns_of};
 
-use crate::Row;
+use crate::{Row, Sort, Words};
+use trees::Kind;
 
 // All kinds are below this number.
 const KINDS_END: u8 = 47;
 
-pub type Cells = [u8; 459];
+// A Rule's children follow its flags: it has a row for each number that they may be, and these come first.
+const RULES: usize = 4;
 
-const TABLE: Cells = [
-    5, 4, 1, 0, 1, 0, 0, 13, 2, 5, 4, 1, 0, 4, 1, 0, 13, 2, 5, 4, 1, 0, 12, 1, 0, 13, 2, 5, 4, 1,
-    0, 4, 12, 1, 13, 2, 0, 0, 0, 0, 0, 0, 0, 0, 0, 5, 4, 1, 0, 4, 6, 0, 0, 0, 6, 1, 1, 0, 4, 0, 0,
-    0, 0, 6, 1, 1, 0, 0, 0, 0, 7, 0, 6, 1, 1, 0, 8, 0, 0, 0, 0, 7, 1, 1, 0, 4, 8, 0, 0, 0, 8, 1, 0,
-    0, 0, 0, 0, 0, 0, 8, 1, 1, 0, 0, 0, 0, 9, 0, 8, 1, 1, 0, 0, 0, 0, 10, 0, 9, 1, 1, 0, 4, 4, 0,
-    0, 0, 10, 1, 1, 1, 4, 0, 0, 0, 0, 5, 16, 1, 0, 4, 0, 0, 4, 4, 5, 2, 1, 0, 4, 0, 0, 11, 0, 11,
-    1, 0, 0, 0, 0, 0, 0, 0, 11, 1, 0, 0, 0, 0, 0, 0, 0, 11, 1, 0, 0, 4, 0, 0, 0, 0, 5, 1, 1, 0, 4,
-    4, 0, 0, 0, 5, 2, 1, 0, 4, 4, 0, 0, 0, 5, 1, 1, 0, 4, 4, 0, 0, 0, 5, 1, 1, 0, 4, 0, 0, 4, 1, 5,
-    4, 1, 0, 1, 0, 0, 13, 2, 12, 1, 0, 1, 0, 0, 0, 0, 0, 13, 1, 1, 0, 1, 2, 0, 0, 0, 5, 1, 1, 0, 4,
-    4, 4, 0, 0, 4, 1, 1, 3, 0, 0, 0, 0, 0, 0, 0, 0, 0, 0, 0, 0, 0, 0, 0, 0, 0, 0, 0, 0, 0, 0, 0, 0,
-    0, 0, 0, 0, 0, 0, 0, 0, 0, 0, 0, 0, 0, 0, 0, 0, 0, 0, 0, 0, 0, 0, 0, 0, 0, 0, 1, 1, 1, 0, 4, 0,
-    0, 0, 0, 1, 1, 1, 0, 4, 1, 0, 0, 0, 1, 2, 1, 0, 0, 0, 0, 0, 0, 1, 1, 1, 2, 0, 0, 0, 0, 0, 1, 1,
-    1, 0, 4, 0, 0, 0, 0, 1, 1, 1, 0, 4, 0, 0, 1, 0, 1, 1, 1, 0, 0, 0, 0, 0, 0, 1, 1, 1, 0, 0, 0, 0,
-    1, 0, 1, 1, 1, 1, 0, 0, 0, 0, 0, 0, 0, 0, 0, 0, 0, 0, 0, 0, 2, 1, 1, 0, 4, 0, 0, 2, 0, 2, 1, 1,
-    0, 4, 0, 0, 0, 0, 2, 2, 1, 0, 0, 0, 0, 0, 0, 2, 1, 1, 2, 0, 0, 0, 0, 0, 2, 1, 1, 0, 4, 0, 0, 0,
-    0, 2, 1, 1, 0, 0, 0, 0, 3, 2, 3, 1, 1, 0, 4, 4, 2, 0, 0,
+// What no kind has: no flags are allowed, not even 0.
+const NO_ROW: Row = Row {
+    sort: None,
+    flags: 0,
+    position: false,
+    words: Words::Empty,
+    first: None,
+    second: None,
+    third: None,
+    any: None,
+    last: None,
+};
+
+// A sort by its name, or none.
+macro_rules! sort {
+    (none) => {
+        None
+    };
+    ($name:ident) => {
+        Some(Sort::$name)
+    };
+}
+
+// Whether there is a position.
+macro_rules! position {
+    (pos) => {
+        true
+    };
+    (no_pos) => {
+        false
+    };
+}
+
+// A row: sort, flags, position, words: the three single children, any number of a sort, the last one.
+macro_rules! row {
+    ($sort:ident $flags:literal $position:ident $words:ident: $first:ident $second:ident $third:ident, $any:ident, $last:ident) => {
+        Row {
+            sort: sort!($sort),
+            flags: $flags,
+            position: position!($position),
+            words: Words::$words,
+            first: sort!($first),
+            second: sort!($second),
+            third: sort!($third),
+            any: sort!($any),
+            last: sort!($last),
+        }
+    };
+}
+
+static ROWS: [Row; 51] = [
+    row!(Definition 4 pos Empty: Pattern none none, IfLet, Expression), // Rule with the flags 0
+    row!(Definition 4 pos Empty: Ident Pattern none, IfLet, Expression), // Rule with the flags 1
+    row!(Definition 4 pos Empty: Priority Pattern none, IfLet, Expression), // Rule with the flags 2
+    row!(Definition 4 pos Empty: Ident Priority Pattern, IfLet, Expression), // Rule with the flags 3
+    NO_ROW, // 0
+    row!(Definition 4 pos Empty: Ident TypeValue none, none, none), // 1 TypeDef
+    row!(TypeValue 1 pos Empty: Ident none none, none, none), // 2 TypeValuePrimitive
+    row!(TypeValue 1 pos Empty: none none none, Variant, none), // 3 TypeValueEnum
+    row!(TypeValue 1 pos Empty: Fields none none, none, none), // 4 TypeValueStruct
+    row!(Variant 1 pos Empty: Ident Fields none, none, none), // 5 Variant
+    row!(Fields 1 no_pos Empty: none none none, none, none), // 6 FieldsUnit
+    row!(Fields 1 pos Empty: none none none, StructField, none), // 7 FieldsStruct
+    row!(Fields 1 pos Empty: none none none, TupleField, none), // 8 FieldsTuple
+    row!(StructField 1 pos Empty: Ident Ident none, none, none), // 9 StructField
+    row!(TupleField 1 pos Index: Ident none none, none, none), // 10 TupleField
+    row!(Definition 16 pos Empty: Ident none none, Ident, Ident), // 11 Decl
+    row!(Definition 2 pos Empty: Ident none none, AttrKind, none), // 12 Attr
+    row!(AttrKind 1 no_pos Empty: none none none, none, none), // 13 AttrKindChain
+    row!(AttrKind 1 no_pos Empty: none none none, none, none), // 14 AttrKindPriority
+    row!(AttrKind 1 no_pos Empty: Ident none none, none, none), // 15 AttrKindTag
+    row!(Definition 1 pos Empty: Ident Ident none, none, none), // 16 ExternConstructor
+    row!(Definition 2 pos Empty: Ident Ident none, none, none), // 17 ExternExtractor
+    row!(Definition 1 pos Empty: Ident Ident none, none, none), // 18 ExternConst
+    row!(Definition 1 pos Empty: Ident none none, Ident, Pattern), // 19 Extractor
+    row!(Definition 4 pos Empty: Pattern none none, IfLet, Expression), // 20 Rule
+    row!(Priority 1 no_pos Index: none none none, none, none), // 21 Priority
+    row!(IfLet 1 pos Empty: Pattern Expression none, none, none), // 22 IfLet
+    row!(Definition 1 pos Empty: Ident Ident Ident, none, none), // 23 Converter
+    row!(Ident 1 pos Range: none none none, none, none), // 24 Ident
+    NO_ROW, // 25
+    NO_ROW, // 26
+    NO_ROW, // 27
+    NO_ROW, // 28
+    NO_ROW, // 29
+    row!(Pattern 1 pos Empty: Ident none none, none, none), // 30 PatternVar
+    row!(Pattern 1 pos Empty: Ident Pattern none, none, none), // 31 PatternBind
+    row!(Pattern 2 pos Empty: none none none, none, none), // 32 PatternConstBool
+    row!(Pattern 1 pos Integer: none none none, none, none), // 33 PatternConstInt
+    row!(Pattern 1 pos Empty: Ident none none, none, none), // 34 PatternConstPrim
+    row!(Pattern 1 pos Empty: Ident none none, Pattern, none), // 35 PatternTerm
+    row!(Pattern 1 pos Empty: none none none, none, none), // 36 PatternWildcard
+    row!(Pattern 1 pos Empty: none none none, Pattern, none), // 37 PatternAnd
+    row!(Pattern 1 pos Index: none none none, none, none), // 38 PatternMacroArg
+    NO_ROW, // 39
+    row!(Expression 1 pos Empty: Ident none none, Expression, none), // 40 ExprTerm
+    row!(Expression 1 pos Empty: Ident none none, none, none), // 41 ExprVar
+    row!(Expression 2 pos Empty: none none none, none, none), // 42 ExprConstBool
+    row!(Expression 1 pos Integer: none none none, none, none), // 43 ExprConstInt
+    row!(Expression 1 pos Empty: Ident none none, none, none), // 44 ExprConstPrim
+    row!(Expression 1 pos Empty: none none none, LetDef, Expression), // 45 ExprLet
+    row!(LetDef 1 pos Empty: Ident Ident Expression, none, none), // 46 LetDef
 ];
-
-// The numbers, to be lent to `row_of` as often as a list has records.
-pub fn numbers() -> Cells
-    ensures { result ≡ table }
-{
-    TABLE
-}
-
-fn row_at(numbers: &Cells, i: usize) -> Row
-    requires { (i < 4 + kinds_end) × (numbers.now ≡ table) }
-    ensures { result ≡ row_at i }
-{
-    let k = 9 * i;
-    Row {
-        sort: numbers[k],
-        flags: numbers[k + 1],
-        position: numbers[k + 2],
-        words: numbers[k + 3],
-        first: numbers[k + 4],
-        second: numbers[k + 5],
-        third: numbers[k + 6],
-        any: numbers[k + 7],
-        last: numbers[k + 8],
-    }
-}
 
 // The number of the row of a record's kind and flags.
 fn row_number(kind: u8, flags: u8) -> usize
-    ensures { (result < 4 + kinds_end) × (row_at result ≡ row_for kind flags) }
+    ensures in_table { result < 4 + kinds_end }
+    ensures row { row_at result ≡ row_for kind flags }
 {
-    if kind == 20 {
+    if kind == Kind::Rule as u8 {
         if flags < 4 {
             return flags as usize;
         }
-        return 4;
+        return RULES;
     }
     if kind < KINDS_END {
-        return 4 + kind as usize;
+        return RULES + kind as usize;
     }
-    4
+    RULES
 }
 
 // The row of a record's kind and flags.
-pub fn row_of(numbers: &Cells, kind: u8, flags: u8) -> Row
-    requires { numbers.now ≡ table }
-    ensures { result ≡ row_for kind flags }
+pub fn row_of(kind: u8, flags: u8) -> Row
+    ensures { columns_of result ≡ row_for kind flags }
 {
-    row_at(numbers, row_number(kind, flags))
+    let i = row_number(kind, flags);
+    ROWS[i]
 }

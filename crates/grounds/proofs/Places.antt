@@ -10,9 +10,8 @@ use borrow.Author.Tests.{eqb-true, ltb-true}
 use Rattle.trees.specs.Choice.{pick}
 use Rattle.trees.specs.declared.Rec.{Rec}
 use Rattle.trees.specs.Tree.{Trees, ∅, ◌▸◌, count, trees_of}
-use Rattle.forms.specs.declared.Row.{Row}
 use Rattle.forms.specs.Tests.{◌and◌}
-use Rattle.forms.specs.Kinds.{name, pattern, rows, find, row_for}
+use Rattle.forms.specs.Kinds.{Columns, name, pattern, rows, find, row_for}
 use Rattle.forms.specs.Forms.{placed, one, run, some, singles, leading, sorts_of, children, stands, good, is_nil, next, rest, of_sort, of_sorts, fits}
 use Rattle.forms.proofs.TestLaws.{both}
 use Rattle.forms.proofs.Exact.{enough, length-children, sound}
@@ -62,7 +61,7 @@ run_none s (suc n) e p = absurd (zero-placed p.0)
     zero-placed h = let q : 0 < pick (eqb 0 10) (10 + 256 * 0) 0 = rw e at h in omega arith
 
 -- a row with no run has its single children
-row_count : (w : Row) (c : ℕ) → w.any ≡ 0 → singles w ≤ c → Positive (sorts_of w c) → c ≡ singles w
+row_count : (w : Columns) (c : ℕ) → w.any ≡ 0 → singles w ≤ c → Positive (sorts_of w c) → c ≡ singles w
 unfolding sorts_of
 row_count w c n h p =
     let q = positive_append (run w.any 0 (c - singles w)) (one w.last) (positive_append (leading w) (run w.any 0 (c - singles w) ++ one w.last) p).1 in
@@ -70,7 +69,7 @@ row_count w c n h p =
     omega arith
 
 module _ (t s b : ℕ) (ss : List ℕ) (r : Rec) (rs : List Rec) (g : good t s r ≡ true) (f : fits t b (children r ++ ss) rs ≡ true) where
-  abbrev row : Row
+  abbrev row : Columns
   row = row_for r.kind r.flags
 
   count-row : row.any ≡ 0 → r.count ≡ singles row
@@ -116,7 +115,7 @@ name-leaf t b ss i rs e =
     (k, z, rw c at p.1)
 
 -- a row whose first child is a name
-name-first : (w : Row) (c : ℕ) → w.first ≡ name → (l : List ℕ) × (sorts_of w c ≡ name ∷ l)
+name-first : (w : Columns) (c : ℕ) → w.first ≡ name → (l : List ℕ) × (sorts_of w c ≡ name ∷ l)
 unfolding sorts_of leading one
 name-first w c e = (one w.second ++ one w.third ++ (run w.any 0 (c - singles w) ++ one w.last), rw e)
 

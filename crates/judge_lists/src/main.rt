@@ -12,111 +12,132 @@ use forms::judge::{definitions, idents, many_patterns, one_pattern};
 use forms::scans::{first_macro_arg, skip};
 use records::{put, rec_at, slots};
 use std::alloc::Global;
+use std::fmt;
 use std::io::{self, Read};
-use trees::Rec;
+use trees::{Kind, Rec};
 
-fn judge(how: u8, list: &[u8]) -> bool
-    requires { slots list.now ≤ 65536 }
-{
-    if how == 0 {
-        return one_pattern(list, 64);
-    }
-    if how == 1 {
-        return many_patterns(list, 64);
-    }
-    if how == 2 {
-        return definitions(list, 64);
-    }
-    idents(list, 64)
+// What a list should be.
+#[derive(Clone, Copy)]
+enum Form {
+    OnePattern,
+    Patterns,
+    Definitions,
+    Idents,
 }
 
-// The record with one of its six fields changed; the field 6 is none.
-fn damaged(r: Rec, field: usize) -> Rec {
+impl From<u8> for Form {
+    fn from(byte: u8) -> Form {
+        match byte {
+            0 => Form::OnePattern,
+            1 => Form::Patterns,
+            2 => Form::Definitions,
+            _ => Form::Idents,
+        }
+    }
+}
+
+// Whether a list is what it should be.
+fn judge(form: Form, list: &[u8]) -> bool
+    requires { slots list.now ≤ 65536 }
+{
+    match form {
+        Form::OnePattern => one_pattern(list, 64),
+        Form::Patterns => many_patterns(list, 64),
+        Form::Definitions => definitions(list, 64),
+        Form::Idents => idents(list, 64),
+    }
+}
+
+// A field of a record, or none.
+#[derive(Clone, Copy)]
+enum Field {
+    Kind,
+    Flags,
+    Count,
+    Position,
+    Word1,
+    Word2,
+    Nothing,
+}
+
+const FIELDS: [Field; 7] = [
+    Field::Kind,
+    Field::Flags,
+    Field::Count,
+    Field::Position,
+    Field::Word1,
+    Field::Word2,
+    Field::Nothing,
+];
+
+impl fmt::Display for Field {
+    fn fmt<W: fmt::Write>(&self, f: &mut fmt::Formatter<W>) -> fmt::Result {
+        f.write_str(match self {
+            Field::Kind => "kind",
+            Field::Flags => "flags",
+            Field::Count => "child count",
+            Field::Position => "position",
+            Field::Word1 => "word 1",
+            Field::Word2 => "word 2",
+            Field::Nothing => "nothing",
+        })
+    }
+}
+
+// The record with that field changed.
+fn damaged(r: Rec, field: Field) -> Rec {
     let mut d = r;
-    if field == 0 {
-        d.kind = r.kind % 100 + 100;
-        return d;
-    }
-    if field == 1 {
-        d.flags = r.flags % 128 + 1;
-        return d;
-    }
-    if field == 2 {
-        d.count = r.count % 65535 + 1;
-        return d;
-    }
-    if field == 3 {
-        d.pos = r.pos % 2147483648 + 1;
-        return d;
-    }
-    if field == 4 {
-        d.word1 = r.word1 % 4294967296 + 1099511627776;
-        return d;
-    }
-    if field == 5 {
-        d.word2 = r.word2 % 2147483648 + 1;
-        return d;
+    match field {
+        Field::Kind => d.kind = r.kind % 100 + 100,
+        Field::Flags => d.flags = r.flags % 128 + 1,
+        Field::Count => d.count = r.count % 65535 + 1,
+        Field::Position => d.pos = r.pos % 2147483648 + 1,
+        Field::Word1 => d.word1 = r.word1 % 4294967296 + 1099511627776,
+        Field::Word2 => d.word2 = r.word2 % 2147483648 + 1,
+        Field::Nothing => {}
     }
     d
 }
 
-fn one_if(b: bool) -> u64
-    ensures { result ≤ 1 }
-{
-    if b {
-        return 1;
-    }
-    0
-}
-
-// 1 where the list is accepted with a field of record i damaged, else 0. The list is left as it was.
-fn try_record(list: &mut [u8], i: usize, field: usize, how: u8) -> u64
-    requires { (i < slots list.old) × (slots list.old ≤ 65536) }
-    ensures { result ≤ 1 }
+// Whether the list is accepted with a field of record i damaged. The list is left as it was.
+fn try_record(list: &mut [u8], i: usize, field: Field, form: Form) -> bool
+    requires there { i < slots list.old }
+    requires few { slots list.old ≤ 65536 }
 {
     let r = rec_at(list, i);
     put(list, i, damaged(r, field));
-    let accepted = judge(how, list);
+    let accepted = judge(form, list);
     put(list, i, r);
-    one_if(accepted)
+    accepted
 }
 
 // How many of the lists with that field damaged in one record are accepted.
-fn try_list(list: &mut [u8], field: usize, how: u8) -> u64
+fn try_list(list: &mut [u8], field: Field, form: Form) -> u64
     requires { slots list.old ≤ 65536 }
     ensures { result ≤ 65536 }
 {
-    let n = slots(list);
     let mut accepted = 0;
-    let mut i = 0;
-    while i < n {
-        accepted += try_record(list, i, field, how);
-        i += 1;
+    for i in 0..slots(list) {
+        accepted += u64::from(try_record(list, i, field, form));
     }
     accepted
 }
 
-fn wide(b: u8) -> usize
-    ensures { result < 256 }
-{
-    b as usize
-}
-
 // The same for every list of the input.
-fn try_lists(input: &mut [u8], field: usize) -> u64
+fn try_lists(input: &mut [u8], field: Field) -> u64
     requires { length input.old ≤ 65536 }
 {
     let end = input.len();
     let mut accepted = 0;
     let mut at = 0;
     while 2 <= end - at {
-        let how = input[at];
+        let form = Form::from(input[at]);
         let from = at + 2;
-        let to = from + 24 * wide(input[at + 1]);
+        let to = from + 24 * usize::from(input[at + 1]);
         if end < to {
             return accepted;
         }
-        accepted += try_list(&mut input[from..to], field, how);
+        accepted += try_list(&mut input[from..to], field, form);
         at = to;
     }
     accepted
@@ -130,12 +151,12 @@ fn count_records(input: &[u8]) -> u64
     let mut total = 0;
     let mut at = 0;
     while 2 <= end - at {
-        let n = wide(input[at + 1]);
-        let to = at + 2 + 24 * n;
+        let n = input[at + 1];
+        let to = at + 2 + 24 * usize::from(n);
         if end < to {
             return total;
         }
-        total += n as u64;
+        total += u64::from(n);
         at = to;
     }
     total
@@ -143,11 +164,8 @@ fn count_records(input: &[u8]) -> u64
 
 // Records that are all alike but for the first and the last.
 fn fill(list: &mut [u8], first: Rec, between: Rec, last: Rec) {
-    let n = slots(list);
-    let mut i = 0;
-    while i < n {
+    for i in 0..slots(list) {
         put(list, i, between);
-        i += 1;
     }
     put(list, 0, first);
     put(list, 65535, last);
@@ -155,9 +173,9 @@ fn fill(list: &mut [u8], first: Rec, between: Rec, last: Rec) {
 
 fn and_of(count: u16) -> Rec {
     Rec {
-        kind: 37,
+        kind: Kind::PatternAnd as u8,
         flags: 0,
-        count: count,
+        count,
         pos: 1,
         word1: 0,
         word2: 0,
@@ -166,7 +184,7 @@ fn and_of(count: u16) -> Rec {
 
 fn wildcard() -> Rec {
     Rec {
-        kind: 36,
+        kind: Kind::PatternWildcard as u8,
         flags: 0,
         count: 0,
         pos: 1,
@@ -179,39 +197,34 @@ fn line(rt: &impl Print, label: &str, n: u64) -> io::Result<()> {
     println!(rt; "{label}{n}")
 }
 
-fn write_field(rt: &impl Print, field: usize) -> io::Result<()> {
-    rt.print(match field {
-        0 => "kind",
-        1 => "flags",
-        2 => "child count",
-        3 => "position",
-        4 => "word 1",
-        5 => "word 2",
-        6 => "nothing",
-        _ => "",
-    })
-}
-
 // For each field, how many lists are accepted with that field of one record damaged.
 fn report(rt: &impl Print, input: &mut [u8]) -> io::Result<()>
     requires { length input.old ≤ 65536 }
 {
     line(rt, "records: ", count_records(input))?;
-    let mut field = 0;
-    while field < 7 {
-        write_field(rt, field)?;
-        line(rt, " damaged, accepted: ", try_lists(input, field))?;
-        field += 1;
+    for field in FIELDS {
+        let accepted = try_lists(input, field);
+        println!(rt; "{field} damaged, accepted: {accepted}")?;
     }
     Ok(())
 }
 
+// Where nothing is found, the number of records is printed.
 fn report_large(rt: &impl Print, list: &[u8]) -> io::Result<()>
     requires { slots list.now ≤ 65536 }
 {
-    line(rt, "one pattern: ", one_if(one_pattern(list, 0)))?;
-    line(rt, "first at depth 65: ", first_deep(list) as u64)?;
-    line(rt, "first MacroArg: ", first_macro_arg(list) as u64)?;
+    line(rt, "one pattern: ", u64::from(one_pattern(list, 0)))?;
+    let n = slots(list);
+    line(
+        rt,
+        "first at depth 65: ",
+        first_deep(list).unwrap_or(n) as u64,
+    )?;
+    line(
+        rt,
+        "first MacroArg: ",
+        first_macro_arg(list).unwrap_or(n) as u64,
+    )?;
     line(rt, "after the first tree: ", skip(list, 0, 1) as u64)
 }
 

@@ -29,9 +29,7 @@ fn judge_args(src: &[u8], d: usize) -> Judged
     requires { (slots src.now ≤ 65536) × (d ≤ 65536) × All Placed (recs src.now) }
     ensures { Answers (found (macro_args (trees_of (recs src.now)) d)) (d + slots src.now) result }
 {
-    let n = slots(src);
-    let a = first_macro_arg(src);
-    if a < n {
+    if let Some(a) = first_macro_arg(src) {
         return Judged::Flawed(4, d + a);
     }
     Judged::Fine(0)
@@ -42,9 +40,7 @@ fn judge_deep(src: &[u8], d: usize) -> Judged
     requires { (slots src.now ≤ 65536) × (d ≤ 65536) × All Placed (recs src.now) }
     ensures { Answers (found (too_deeps (trees_of (recs src.now)) d)) (d + slots src.now) result }
 {
-    let n = slots(src);
-    let a = first_deep(src);
-    if a < n {
+    if let Some(a) = first_deep(src) {
         return Judged::Flawed(8, d + a);
     }
     Judged::Fine(0)

@@ -4,6 +4,7 @@
 ghost use Rattle.std.specs.Prelude.{◌≡◌, ◌≤◌, max, length};
 ghost use Rattle.trees.specs.Tree.{trees_of};
 ghost use Rattle.records.specs.Slots.{slots, recs};
+ghost use Rattle.records.specs.Grounds.{number};
 ghost use Rattle.grounds.specs.Stages.{refusal};
 ghost use Rattle.grounds.specs.Opening.{tree_of, counts, Fits, refuse, opening};
 ghost use Rattle.judging.specs.Whole.{DefinitionsShaped, PatternShaped};
@@ -15,9 +16,15 @@ use forms::judge::{definitions, one_pattern};
 use grounds::Counts;
 use opening::Answer;
 use opening::whole::open_into;
-use records::{accepted, refused};
+use records::{Ground, accepted, refused};
 use templating::sizes;
 use words::{clear, clear_from};
+
+fn number(reason: Ground) -> u8
+    ensures { result ≡ number reason }
+{
+    reason as u8
+}
 
 // A refusal, and outputs of zeros.
 fn refuse(store: &mut [u8], out: &mut [u8], code: u8, place: u32) -> u64
@@ -123,9 +130,8 @@ fn open_judged(text: &[u8], defs: &[u8], pattern: &[u8], store: &mut [u8], out: 
 pub fn open(text: &[u8], defs: &[u8], pattern: &[u8], store: &mut [u8], out: &mut [u8]) -> u64
     ensures { Left (opening_of text.now defs.now pattern.now (outputs store.old out.old)) (outputs store.old out.old) (outputs store.new out.new) result }
 {
-    let n = sizes(text.len(), defs.len(), pattern.len());
-    if n != 0 {
-        return refuse(store, out, n, 0);
+    if let Err(reason) = sizes(text.len(), defs.len(), pattern.len()) {
+        return refuse(store, out, number(reason), 0);
     }
     if !definitions(defs, text.len()) {
         return refuse(store, out, 3, 0);

@@ -1,11 +1,11 @@
 -- Substituting, one slot of the template after another: a law for each way through its code. Assumes nothing.
-use Prim.Native.Nat.{ℕ, zero, suc, ◌+◌, ◌-◌, ◌*◌, ◌/◌, ◌<◌, ◌≤◌, min}
+use Prim.Native.Nat.{ℕ, suc, ◌+◌, ◌-◌, ◌/◌, ◌<◌, ◌≤◌, min}
 use native.Mathlib.Omega.{arith}
-use native.Mathlib.Nat.{add-zero}
 use mathlib.Core.Path.{◌≡◌, refl, sym, ap, ◌∙◌}
 use mathlib.Core.Bool.{Bool, true, false}
 use mathlib.Core.List.{List, [], ◌∷◌, ◌++◌}
-use lib.ListN.{length, get_or, set, drop, length-drop, length-set}
+use lib.ListN.{length, get_or, set, take, drop, length-take, length-drop, length-set}
+use Rattle.std.proofs.lemmas.List.{get_or-take}
 use lib.Seq.{get_or-set_same, get_or-set_other}
 use lib.Dec.{eqb, ltb}
 use borrow.Author.Tests.{eq-eqb, ne_eqb, lt-ltb, le-ltb, ltb-true, ltb-false, eqb-true, eqb-false, leb-false}
@@ -19,59 +19,37 @@ use Rattle.expansion.specs.Flat.{span, after, tree_records, end_of, fill, FitsAt
 use Rattle.expansion.proofs.IndexLaws.{all-at}
 use Rattle.expansion.proofs.SpanLaws.{span-zero, span_le, span-add, trees_of-after, count-others, count-trees_of}
 use Rattle.expansion.proofs.ListLaws.{list-substitute}
-use Rattle.templates.specs.declared.Answer.{Answer}
-use Rattle.templates.specs.declared.Answer.TheVariants.{NoPattern}
-use Rattle.templates.specs.Answers.{first_of, lacks_pattern, space, settled, substituted_records, first_lacking, substitute_answer, Answered, ArgLeaf, SubstituteReady}
+use Rattle.std.specs.Prelude.{Option, Some, None, Ok, Err}
+use Rattle.forms.specs.Lists.{left, skip, first_of}
+use Rattle.grounds.proofs.At.{skip-end}
+use Rattle.templates.specs.declared.Refused.TheVariants.{NoPattern, NoSpace}
+use Rattle.templates.specs.Answers.{lacks_pattern, space, substituted_records, first_lacking, fitted, substitute_answer, Answered, ArgLeaf, SubstituteReady}
 use Rattle.templates.specs.Writing.{Wrote, Reaches, slice}
-use Rattle.templates.specs.Scans.{EndOf, Starts, start_of, pattern_records, filled_by, fill_from, ArgsBelow}
+use Rattle.templates.specs.Scans.{Starts, start_of, pattern_records, filled_by, fill_from, ArgsBelow}
 use Rattle.templates.proofs.WriteLaws.{reaches_more, reaches_stop, reaches_end}
-use Rattle.templates.proofs.AnswerLaws.{settled-answer, answered_refusal}
+use Rattle.templates.proofs.AnswerLaws.{answered_refusal, answered_full, answered_all}
 
 -- ---- where a tree ends
 
-count-below : (l : List ℕ) (i : ℕ) → (rec_at l i).count < 65536
-unfolding rec_at
-count-below l i = omega arith
+-- r is where the tree that starts at slot k ends
+record EndOf (list : List ℕ) (k r : ℕ) : Type 0 where
+  end : r ≡ end_of (recs list) k
+  later : k < r
+  inside : r ≤ slots list
 
--- of the tree that starts at slot k, the records from slot i on are those of n trees
-pub record Passing (l : List ℕ) (k i n : ℕ) : Type 0 where
-  pub end : end_of (recs l) k ≡ i + span (drop i (recs l)) n
-  pub few : n ≤ 1 + 65536 * i
-
-pub pass-start : (l : List ℕ) (k : ℕ) → Passing l k k 1
-unfolding end_of
-pass-start l k = record { end = refl; few = omega arith }
-
-pub pass_turn : (l : List ℕ) (k i n : ℕ) (r : Rec) → r ≡ rec_at l i → Passing l k i n → i < slots l → (n ≡ 0 → ⊥) → Passing l k (i + 1) (n - 1 + r.count)
-unfolding span
-pass_turn l k i zero r e v h z = absurd (z refl)
-pass_turn l k i (suc n) r e v h z =
-    let m : suc n - 1 + r.count ≡ r.count + n = omega arith in
-    let c : (rec_at l i).count < 65536 = count-below l i in
-    let d : r.count < 65536 = rw e c in
-    record {
-      end = v.end ∙ rw (recs-at l i h, ← e, m) (omega arith);
-      few = omega (arith, v.few);
-    }
-
-module _ (l : List ℕ) (k i n : ℕ) (v : Passing l k i n) (inside : k < slots l) where
-  end_later : k < end_of (recs l) k
+module _ (l : List ℕ) (k : ℕ) (h : k < slots l) where
+  starts : k < end_of (recs l) k
   unfolding end_of span
-  end_later = rw (recs-at l k inside) (omega arith)
+  starts = rw (recs-at l k h) (omega arith)
 
-  end-inside : end_of (recs l) k ≤ slots l
+  stops : end_of (recs l) k ≤ slots l
   unfolding end_of
-  end-inside = omega (arith, span_le (drop k (recs l)) 1, length-drop k (recs l), length-recs l)
+  stops = omega (arith, span_le (drop k (recs l)) 1, length-drop k (recs l), length-recs l)
 
-  ended : i ≡ end_of (recs l) k → EndOf l k i
-  ended e = record { end = e; later = rw e end_later; inside = rw e end-inside }
-
-  pub pass_all : n ≡ 0 → EndOf l k i
-  pass_all z = ended (sym (v.end ∙ rw (z, span-zero (drop i (recs l)), add-zero i)))
-
-  pub pass-end : slots l ≤ i → EndOf l k i
-  unfolding span
-  pass-end h = ended (sym (v.end ∙ rw (recs-end l i h) (add-zero i)))
+  ends : (y : ℕ) → y ≡ k + skip 1 (left l k) → EndOf l k y
+  ends y e =
+      let d : y ≡ end_of (recs l) k = skip-end l k y e in
+      record { end = d; later = omega (arith, starts); inside = omega (arith, stops) }
 
 -- ---- the table of starts
 
@@ -93,8 +71,8 @@ pub record Finding (p s₀ s : List ℕ) (n i : ℕ) : Type 0 where
   pub inside : i ≤ slots p
   pub size : length s ≡ length s₀
 
-pub find-start : (p s : List ℕ) → Finding p s s 0 0
-find-start p s = record { start = sym (span-zero (recs p)); low = omega arith; at = λ j h. absurd (omega arith); few = omega arith; inside = omega arith; size = refl }
+pub find_start : (p s : List ℕ) → Finding p s s 0 0
+find_start p s = record { start = sym (span-zero (recs p)); low = omega arith; at = λ j h. absurd (omega arith); few = omega arith; inside = omega arith; size = refl }
 
 module _ (p s₀ s : List ℕ) (n i : ℕ) (v : Finding p s₀ s n i) where
   here : i < slots p → after (recs p) n ≡ rec_at p i ∷ drop (i + 1) (recs p)
@@ -103,12 +81,13 @@ module _ (p s₀ s : List ℕ) (n i : ℕ) (v : Finding p s₀ s n i) where
   more : i < slots p → n < count (trees_of (recs p))
   more h = more-trees (recs p) n (rec_at p i) (drop (i + 1) (recs p)) (here h)
 
-  pub find-room : i < slots p → slots p ≤ length s₀ → n < length s
-  find-room h k = omega (arith, more h, count-trees_of (recs p), length-recs p, v.size)
+  pub find_room : i < slots p → slots p ≤ length s₀ → n < length s
+  find_room h k = omega (arith, more h, count-trees_of (recs p), length-recs p, v.size)
 
-  pub find_turn : (e : ℕ) → EndOf p i e → i < slots p → slots p ≤ length s₀ → Finding p s₀ (set s n i) (n + 1) e
+  pub find_turn : (e : ℕ) → e ≡ i + skip 1 (left p i) → i < slots p → slots p ≤ length s₀ → Finding p s₀ (set s n i) (n + 1) e
   unfolding end_of
-  find_turn e w h k =
+  find_turn e x h k =
+      let w = ends p i h e x in
       record {
         start = w.end ∙ rw v.start (sym (span-add (recs p) n 1));
         low = omega (arith, v.low, w.later);
@@ -122,11 +101,11 @@ module _ (p s₀ s : List ℕ) (n i : ℕ) (v : Finding p s₀ s n i) where
       put j b = go (eqb j n) refl
         where
           go : (t : Bool) → eqb j n ≡ t → get_or (set s n i) j 0 ≡ span (recs p) j
-          go true q = rw (eqb-true j n q) (get_or-set_same s n i 0 (find-room h k) ∙ v.start)
+          go true q = rw (eqb-true j n q) (get_or-set_same s n i 0 (find_room h k) ∙ v.start)
           go false q = get_or-set_other s n j i 0 (eqb-false j n q) ∙ v.at j (omega (arith, eqb-false j n q))
 
-  pub find-end : slots p ≤ i → slots p ≤ length s₀ → Starts p s n
-  find-end h k =
+  pub find_end : slots p ≤ i → slots p ≤ length s₀ → Starts p s n
+  find_end h k =
       let e : i ≡ slots p = omega (arith, v.inside) in
       let z : count (trees_of (recs p)) ≤ n = no_trees (recs p) n (ap (λ (j : ℕ). drop j (recs p)) (sym v.start) ∙ recs-end p i h) in
       record {
@@ -136,13 +115,33 @@ module _ (p s₀ s : List ℕ) (n i : ℕ) (v : Finding p s₀ s n i) where
         last = sym v.start ∙ e;
       }
 
+pub find_later : (p : List ℕ) (i e : ℕ) → e ≡ i + skip 1 (left p i) → i < slots p → i < e
+find_later p i e x h = (ends p i h e x).later
+
+-- the table cut to the starts that were found
+pub starts_found : (p s : List ℕ) (n : ℕ) → Starts p s n → Starts p (take n s) (length (take n s))
+starts_found p s n v =
+    let e : length (take n s) ≡ n = omega (arith, length-take n s, v.room) in
+    rw e (record {
+      counted = v.counted;
+      room = omega (arith, e);
+      at = λ j h. get_or-take n s j 0 (omega (arith, h, e)) ∙ v.at j (omega (arith, h, e));
+      last = v.last;
+    })
+
+pub cut_args : (t s : List ℕ) (n : ℕ) → n ≤ length s → ArgsBelow t n → ArgsBelow t (length (take n s))
+cut_args t s n h a = let e : length (take n s) ≡ n = omega (arith, length-take n s) in rw e a
+
+pub cut_few : (s : List ℕ) (n : ℕ) → n ≤ 65536 → length (take n s) ≤ 65536
+cut_few s n h = omega (arith, length-take n s)
+
 pub start_in : (s : List ℕ) (m end k : ℕ) → k < m → get_or s k 0 ≡ start_of s m end k
 unfolding start_of
 start_in s m end k h = rw (lt-ltb k m h)
 
-pub start-last : (s : List ℕ) (m end k : ℕ) → m ≤ k → end ≡ start_of s m end k
+pub start_last : (s : List ℕ) (m end k : ℕ) → m ≤ k → end ≡ start_of s m end k
 unfolding start_of
-start-last s m end k h = rw (le-ltb k m h)
+start_last s m end k h = rw (le-ltb k m h)
 
 -- ---- the records of a pattern
 
@@ -155,17 +154,17 @@ module _ (p s : List ℕ) (m : ℕ) (v : Starts p s m) where
       go false q =
           let z : m ≤ k = ltb-false k m q in
           let y : k ≡ m = omega arith in
-          e ∙ sym (start-last s m (slots p) k z) ∙ sym v.last ∙ ap (span (recs p)) (sym y)
+          e ∙ sym (start_last s m (slots p) k z) ∙ sym v.last ∙ ap (span (recs p)) (sym y)
 
   module _ (k from upto : ℕ) (a : from ≡ start_of s m (slots p) k) (b : upto ≡ start_of s m (slots p) (k + 1)) (h : k < m) where
     size_is : upto ≡ from + span (after (recs p) k) 1
     size_is = start_is (k + 1) upto b (omega arith) ∙ span-add (recs p) k 1 ∙ ap (λ (j : ℕ). j + span (after (recs p) k) 1) (sym (start_is k from a (omega arith)))
 
-    pub part-ordered : from ≤ upto
-    part-ordered = omega (arith, size_is)
+    pub part_ordered : from ≤ upto
+    part_ordered = omega (arith, size_is)
 
-    pub part-inside : upto ≤ slots p
-    part-inside = omega (arith, start_is (k + 1) upto b (omega arith), span_le (recs p) (k + 1), length-recs p)
+    pub part_inside : upto ≤ slots p
+    part_inside = omega (arith, start_is (k + 1) upto b (omega arith), span_le (recs p) (k + 1), length-recs p)
 
     part-is : slice p from upto ≡ pattern_records p k
     unfolding slice pattern_records
@@ -173,8 +172,8 @@ module _ (p s : List ℕ) (m : ℕ) (v : Starts p s m) where
         let n : upto - from ≡ span (after (recs p) k) 1 = omega (arith, size_is) in
         rw (n, start_is k from a (omega arith))
 
-    pub part-wrote : (room : ℕ) (c : List ℕ) (o : ℕ) (d : List ℕ) (y : ℕ) → Wrote room c o (slice p from upto) d y → Wrote room c o (pattern_records p k) d y
-    part-wrote room c o d y w = rw part-is at w
+    pub part_wrote : (room : ℕ) (c : List ℕ) (o : ℕ) (d : List ℕ) (y : Option ℕ) → Wrote room c o (slice p from upto) d y → Wrote room c o (pattern_records p k) d y
+    part_wrote room c o d y w = rw part-is at w
 
 -- ---- what a record becomes
 
@@ -182,7 +181,7 @@ pub arg_below : (t : List ℕ) (m i : ℕ) (r : Rec) → r ≡ rec_at t i → Ar
 unfolding is_macro_arg
 arg_below t m i r e v h k = rw e (v.below i h (eq-eqb (rec_at t i).kind 38 (rw e at k)))
 
-module _ (room : ℕ) (a : List ℕ) (o : ℕ) (b : List ℕ) (y : ℕ) (p t : List ℕ) (i : ℕ) (r : Rec) where
+module _ (room : ℕ) (a : List ℕ) (o : ℕ) (b : List ℕ) (y : Option ℕ) (p t : List ℕ) (i : ℕ) (r : Rec) where
   pub filled_arg : Wrote room a o (pattern_records p r.word1) b y → r ≡ rec_at t i → r.kind ≡ 38 → Wrote room a o (filled_by p (rec_at t i)) b y
   unfolding filled_by is_macro_arg
   filled_arg w e k = rw (← e, eq-eqb r.kind 38 k) w
@@ -198,13 +197,13 @@ module _ (room : ℕ) (a₀ a : List ℕ) (o : ℕ) (whole : List Rec) (t p : Li
   unfolding fill_from filled_by pattern_records fill
   fill-at h = rw (recs-at t i h)
 
-  pub fill_turn : (b : List ℕ) (y : ℕ) → Wrote room a o (filled_by p (rec_at t i)) b y → Reaches room a₀ whole a o (fill_from t i p) → i < slots t → y ≤ room → Reaches room a₀ whole b y (fill_from t (i + 1) p)
-  fill_turn b y w v h k = reaches_more room a₀ a o whole (fill_from t i p) v b y (filled_by p (rec_at t i)) (fill_from t (i + 1) p) (fill-at h) w k
+  pub fill_turn : (b : List ℕ) (n : ℕ) → Wrote room a o (filled_by p (rec_at t i)) b (Some n) → Reaches room a₀ whole a o (fill_from t i p) → i < slots t → Reaches room a₀ whole b n (fill_from t (i + 1) p)
+  fill_turn b n w v h = reaches_more room a₀ a o whole (fill_from t i p) v b n (filled_by p (rec_at t i)) (fill_from t (i + 1) p) (fill-at h) w
 
-  pub fill_stop : (b : List ℕ) (y : ℕ) → Wrote room a o (filled_by p (rec_at t i)) b y → Reaches room a₀ whole a o (fill_from t i p) → i < slots t → room < y → Wrote room a₀ 0 whole b y
-  fill_stop b y w v h k = reaches_stop room a₀ a o whole (fill_from t i p) v b y (filled_by p (rec_at t i)) (fill_from t (i + 1) p) (fill-at h) w k
+  pub fill_stop : (b : List ℕ) → Wrote room a o (filled_by p (rec_at t i)) b None → Reaches room a₀ whole a o (fill_from t i p) → i < slots t → Wrote room a₀ 0 whole b None
+  fill_stop b w v h = reaches_stop room a₀ a o whole (fill_from t i p) v b (filled_by p (rec_at t i)) (fill_from t (i + 1) p) (fill-at h) w
 
-  pub fill_end : Reaches room a₀ whole a o (fill_from t i p) → slots t ≤ i → o ≤ room → Wrote room a₀ 0 whole a o
+  pub fill_end : Reaches room a₀ whole a o (fill_from t i p) → slots t ≤ i → o ≤ room → Wrote room a₀ 0 whole a (Some o)
   unfolding fill_from fill
   fill_end v h k = reaches_end room a₀ a o whole (fill (tree_records (recs p)) (drop i (recs t))) v (rw (recs-end t i h)) k
 
@@ -226,28 +225,38 @@ none_lacks m (r ∷ rs) h a = go (lacks_pattern m r) refl h (none_lacks m rs)
 fits_below : (t : List ℕ) (m : ℕ) → All (FitsAt m) (recs t) → ArgsBelow t m
 fits_below t m f = record { below = λ i h e. (all-at (recs t) (FitsAt m) f i (rec_at t i) (drop (i + 1) (recs t)) (recs-at t i h) e).1 }
 
-module _ (t p : List ℕ) (m bad : ℕ) (first : bad ≡ first_of (lacks_pattern m) (recs t)) (ready : SubstituteReady t p) where
-  fits : slots t ≤ bad → All (FitsAt m) (recs t)
-  fits h = none_lacks m (recs t) (omega (arith, length-recs t, first)) ready.args
+module _ (t p : List ℕ) (ready : SubstituteReady t p) (s : List ℕ) (m : ℕ) (v : Starts p s m) where
+  pub few_starts : m ≤ 65536
+  few_starts = omega (arith, v.counted, count-trees_of (recs p), length-recs p, ready.few_patterns)
 
-  pub args-below : slots t ≤ bad → ArgsBelow t m
-  args-below h = fits_below t m (fits h)
+  pub substitute_refused : (bad room : ℕ) (l : List Rec) (a b : List ℕ) → bad ≡ first_of (lacks_pattern m) (recs t) → bad < slots t → Answered (substitute_answer (recs t) (recs p) room) l a b (Err (NoPattern bad))
+  unfolding substitute_answer first_lacking
+  substitute_refused bad room l a b first h =
+      let k : bad < length (recs t) = omega (arith, length-recs t) in
+      answered_refusal (substitute_answer (recs t) (recs p) room) l a b (NoPattern bad) (rw (← v.counted, ← first, lt-ltb bad (length (recs t)) k))
 
-  module _ (s : List ℕ) (v : Starts p s m) where
-    pub few-starts : m ≤ 65536
-    few-starts = omega (arith, v.counted, count-trees_of (recs p), length-recs p, ready.few_patterns)
+  module _ (none_lack : slots t ≡ first_of (lacks_pattern m) (recs t)) where
+    fits : All (FitsAt m) (recs t)
+    fits = none_lacks m (recs t) (omega (arith, length-recs t)) ready.args
 
-    pub substitute-refused : (room : ℕ) (l : List Rec) (a b : List ℕ) → bad < slots t → Answered (substitute_answer (recs t) (recs p) room) l a b (NoPattern bad)
-    unfolding substitute_answer first_lacking
-    substitute-refused room l a b h =
-        let k : bad < length (recs t) = omega (arith, length-recs t) in
-        answered_refusal (substitute_answer (recs t) (recs p) room) l a b (NoPattern bad) (λ n q. let z : ◌≡◌ {A = ℕ} 0 1 = cc in omega arith) (rw (← v.counted, ← first, lt-ltb bad (length (recs t)) k))
+    pub args_below : ArgsBelow t m
+    args_below = fits_below t m fits
 
-    pub substitute-answer : (room : ℕ) (a b : List ℕ) (y : ℕ) (r : Answer) → Wrote room a 0 (fill_from t 0 p) b y → r ≡ settled y room → room ≡ min (length a / 24) 65536 → slots t ≤ bad
-        → Answered (substitute_answer (recs t) (recs p) (space a)) (substituted_records (recs t) (recs p)) a b r
-    unfolding substitute_answer first_lacking substituted_records fill_from space
-    substitute-answer room a b y r w e n h =
-        let k : length (recs t) ≤ bad = omega (arith, length-recs t) in
-        let f : All (FitsAt (count (trees_of (recs p)))) (recs t) = rw v.counted at (fits h) in
-        let l = list-substitute (recs t) (recs p) ready.placed ready.patterns_placed f in
-        rw (← v.counted, ← first, le-ltb bad (length (recs t)) k, l, ← n) (settled-answer room a b (fill (tree_records (recs p)) (recs t)) y r w e n)
+    module _ (room : ℕ) (a b : List ℕ) (n : room ≡ min (length a / 24) 65536) where
+      filled : substituted_records (recs t) (recs p) ≡ fill_from t 0 p
+      unfolding substituted_records fill_from
+      filled =
+          let f : All (FitsAt (count (trees_of (recs p)))) (recs t) = rw v.counted at fits in
+          list-substitute (recs t) (recs p) ready.placed ready.patterns_placed f
+
+      fitted_is : substitute_answer (recs t) (recs p) (space a) ≡ fitted (fill_from t 0 p) room
+      unfolding substitute_answer first_lacking space
+      fitted_is =
+          let k : length (recs t) ≤ slots t = omega (arith, length-recs t) in
+          rw (← v.counted, ← none_lack, le-ltb (slots t) (length (recs t)) k, filled, ← n)
+
+      pub substitute_full : Wrote room a 0 (fill_from t 0 p) b None → Answered (substitute_answer (recs t) (recs p) (space a)) (substituted_records (recs t) (recs p)) a b (Err NoSpace)
+      substitute_full w = rw (fitted_is, filled) (answered_full room a b (fill_from t 0 p) w)
+
+      pub substitute_all : (k : ℕ) → Wrote room a 0 (fill_from t 0 p) b (Some k) → Answered (substitute_answer (recs t) (recs p) (space a)) (substituted_records (recs t) (recs p)) a b (Ok k)
+      substitute_all k w = rw (fitted_is, filled) (answered_all room a b (fill_from t 0 p) k w n)

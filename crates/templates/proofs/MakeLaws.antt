@@ -5,12 +5,11 @@ use native.Mathlib.Nat.{zero-add}
 use mathlib.Core.Path.{◌≡◌, refl, sym, ap, ◌∙◌}
 use mathlib.Core.Bool.{Bool, true, false}
 use mathlib.Core.Option.{Option, none, some}
+use Rattle.std.specs.Prelude.{Option as Found, Some, None, Ok, Err}
 use mathlib.Core.List.{List, [], ◌∷◌}
 use lib.ListN.{length, drop}
 use lib.Seq.{drop-drop}
 use lib.Dec.{eqb}
-use types.Run.{OneOf}
-use denote.Enum.Declared.{tag_of}
 use borrow.Author.Tests.{eq-eqb, ne_eqb, lt-ltb, le-ltb}
 use Rattle.trees.specs.Choice.{pick}
 use Rattle.trees.specs.declared.Rec.{Rec}
@@ -25,17 +24,13 @@ use Rattle.expansion.specs.Flat.{wildcard_next, below, stands_at, making}
 use Rattle.expansion.proofs.IndexLaws.{all-at}
 use Rattle.expansion.proofs.FlatTemplates.{at_other}
 use Rattle.expansion.proofs.ListLaws.{list_make}
-use Rattle.templates.specs.declared.Answer.{Answer}
-use Rattle.templates.specs.declared.Answer.TheVariants.{MacroArg}
-use Rattle.templates.specs.declared.making.Found.{Found}
-use Rattle.templates.specs.declared.making.Found.TheVariants.{At, Nothing}
-use Rattle.templates.specs.declared.making.Appended.{Appended}
-use Rattle.templates.specs.contracts.making.Found.{the_type}
-use Rattle.templates.specs.Answers.{first_of, is_arg, space, settled, template_records, template_answer, Answered, Leaf, Params, MakeReady}
+use Rattle.forms.specs.Lists.{FirstToPass, first_of}
+use Rattle.templates.specs.declared.Refused.TheVariants.{MacroArg, NoSpace}
+use Rattle.templates.specs.Answers.{is_arg, space, template_records, template_answer, fitted, Answered, Leaf, Params, MakeReady}
 use Rattle.templates.specs.Writing.{Wrote, Reaches}
-use Rattle.templates.specs.Scans.{option_of, params_of, named_next, named_at, wildcard_at, parameter_at, making_from, argument, after_parameter, MadeAt, AppendedAt}
+use Rattle.templates.specs.Scans.{option_of, params_of, named_next, named_at, wildcard_at, parameter_at, making_from, argument, after_parameter, MadeAt}
 use Rattle.templates.proofs.WriteLaws.{reaches_more, reaches_stop, reaches_end}
-use Rattle.templates.proofs.AnswerLaws.{settled-answer, answered_refusal}
+use Rattle.templates.proofs.AnswerLaws.{answered_refusal, answered_full, answered_all}
 
 -- ---- the first parameter of a name
 
@@ -60,53 +55,60 @@ leaf-tree : (r : Rec) (rs : List Rec) → r.count ≡ 0 → trees_of (r ∷ rs) 
 unfolding trees_of firsts others
 leaf-tree r rs e = rw e
 
-pub seek_start : (text name params : List ℕ) → Seeking text name params 0
+seek_start : (text name params : List ℕ) → Seeking text name params 0
 unfolding params_of
 seek_start text name params = record { whole = later-start (position text name (trees_of (recs params))) }
 
-module _ (text name params : List ℕ) (i : ℕ) where
-  at_slot : Params params → i < slots params
+-- whether the parameter r has the name
+abbrev pub named : List ℕ → List ℕ → Rec → Bool
+named text name r = same_bytes name (spelled text r.word1)
+
+module _ (text name params : List ℕ) (v : Params params) where
+  at_slot : (i : ℕ) → i < slots params
       → position text name (trees_of (drop i (recs params)))
-      ≡ pick (same_bytes name (spelled text (rec_at params i).word1)) (some 0) (next (position text name (trees_of (drop (i + 1) (recs params)))))
+      ≡ pick (named text name (rec_at params i)) (some 0) (next (position text name (trees_of (drop (i + 1) (recs params)))))
   unfolding position
-  at_slot v h =
+  at_slot i h =
       rw (recs-at params i h, leaf-tree (rec_at params i) (drop (i + 1) (recs params)) (all-at (recs params) Leaf v.leaves i (rec_at params i) (drop (i + 1) (recs params)) (recs-at params i h)))
 
-  pub seek_turn : (b : Bool) (s : List ℕ) (p : Rec) → b ≡ same_bytes name s → s ≡ spelled text p.word1 → p ≡ rec_at params i → b ≡ false → Seeking text name params i → Params params → i < slots params
-      → Seeking text name params (i + 1)
-  seek_turn b s p x y z e v w h =
-      record { whole = v.whole ∙ rw (at_slot w h, ← z, ← y, ← x, e) (later-next i (position text name (trees_of (drop (i + 1) (recs params))))) }
+  -- none of the first n parameters has it
+  seek_to : (n : ℕ) → n ≤ slots params → ((j : ℕ) → j < n → named text name (rec_at params j) ≡ false) → Seeking text name params n
+  seek_to zero h f = seek_start text name params
+  seek_to (suc n) h f =
+      let w = seek_to n (omega arith) (λ j k. f j (omega arith)) in
+      let e : suc n ≡ n + 1 = omega arith in
+      record { whole = rw e (w.whole ∙ rw (at_slot n (omega arith), f n (omega arith)) (later-next n (position text name (trees_of (drop (n + 1) (recs params)))))) }
 
-  pub seek_here : (b : Bool) (s : List ℕ) (p : Rec) → b ≡ same_bytes name s → s ≡ spelled text p.word1 → p ≡ rec_at params i → b ≡ true → Seeking text name params i → Params params → i < slots params
-      → option_of (At i) ≡ position text name (params_of params)
-  unfolding option_of
-  seek_here b s p x y z e v w h =
-      let n : i + 0 ≡ i = omega arith in
-      sym (v.whole ∙ rw (at_slot w h, ← z, ← y, ← x, e) (ap some n))
-
-  pub seek_end : Seeking text name params i → slots params ≤ i → option_of Nothing ≡ position text name (params_of params)
+  pub position_is : (P : Rec → Bool → Type 0) (o : Found ℕ) → FirstToPass P params o → ((r : Rec) (b : Bool) → P r b → b ≡ named text name r) → option_of o ≡ position text name (params_of params)
   unfolding option_of trees_of position
-  seek_end v h = sym (v.whole ∙ rw (recs-end params i h))
+  position_is P None f k =
+      let w = seek_to (slots params) (omega arith) (λ j h. sym (k _ _ (f.nowhere j h))) in
+      sym (w.whole ∙ rw (recs-end params (slots params) (omega arith)))
+  position_is P (Some i) f k =
+      let w = seek_to i (omega (arith, f.inside)) (λ j h. sym (k _ _ (f.before j h))) in
+      let n : i + 0 ≡ i = omega arith in
+      sym (w.whole ∙ rw (at_slot i f.inside, sym (k _ _ f.here)) (ap some n))
 
 -- ---- names and Wildcards at a slot
 
-module _ (text pattern params : List ℕ) (j : ℕ) where
-  pub named-is : (f : Found) (s : List ℕ) (i : Rec) → option_of f ≡ position text s (params_of params) → s ≡ spelled text i.word1 → i ≡ rec_at pattern j → j < slots pattern
+module _ (text pattern params : List ℕ) (j n : ℕ) (all : n ≡ slots pattern) where
+  pub named_is : (f : Found ℕ) (s : List ℕ) (i : Rec) → option_of f ≡ position text s (params_of params) → s ≡ spelled text i.word1 → i ≡ rec_at pattern j → j < n
       → option_of f ≡ named_at text pattern j params
   unfolding named_at named_next
-  named-is f s i x y z h = x ∙ rw (recs-at pattern j h, ← z, ← y)
+  named_is f s i x y z h = let k : j < slots pattern = omega arith in x ∙ rw (recs-at pattern j k, ← z, ← y)
 
-  pub named_none : slots pattern ≤ j → option_of Nothing ≡ named_at text pattern j params
+  pub named_none : n ≤ j → option_of None ≡ named_at text pattern j params
   unfolding named_at named_next option_of
-  named_none h = rw (recs-end pattern j h)
+  named_none h = let k : slots pattern ≤ j = omega arith in rw (recs-end pattern j k)
 
-pub wildcard-is : (pattern : List ℕ) (j : ℕ) (r : Rec) → r ≡ rec_at pattern j → j < slots pattern → eqb r.kind 36 ≡ wildcard_at pattern j
-unfolding wildcard_at is_wildcard
-wildcard-is pattern j r e h = rw (recs-at pattern j h, ← e)
+module _ (pattern : List ℕ) (j n : ℕ) (all : n ≡ slots pattern) where
+  pub wildcard_is : (r : Rec) → r ≡ rec_at pattern j → j < n → eqb r.kind 36 ≡ wildcard_at pattern j
+  unfolding wildcard_at is_wildcard
+  wildcard_is r e h = let k : j < slots pattern = omega arith in rw (recs-at pattern j k, ← e)
 
-pub wildcard-none : (pattern : List ℕ) (j : ℕ) → slots pattern ≤ j → false ≡ wildcard_at pattern j
-unfolding wildcard_at
-wildcard-none pattern j h = rw (recs-end pattern j h)
+  pub wildcard_none : n ≤ j → false ≡ wildcard_at pattern j
+  unfolding wildcard_at
+  wildcard_none h = let k : slots pattern ≤ j = omega arith in rw (recs-end pattern j k)
 
 -- ---- the parameter that a record stands for
 
@@ -147,32 +149,32 @@ module _ (text pattern params : List ℕ) (i : ℕ) (r : Rec) (is : r ≡ rec_at
   unfolding wildcard_at
   over b w = let n : i + 1 + 1 ≡ i + 2 = omega arith in ap wildcard_next (drop-drop 1 (i + 1) (recs pattern) ∙ ap (λ (k : ℕ). drop k (recs pattern)) n) ∙ sym w
 
-  pub parameter_var : (f : Found) → option_of f ≡ named_at text pattern (i + 1) params → r.kind ≡ 30 → option_of f ≡ parameter_at text pattern i params
+  pub parameter_var : (f : Found ℕ) → option_of f ≡ named_at text pattern (i + 1) params → r.kind ≡ 30 → option_of f ≡ parameter_at text pattern i params
   unfolding named_at parameter_at
   parameter_var f e v = e ∙ rw (← is) (stands-var text (params_of params) r (drop (i + 1) (recs pattern)) (var r.kind v))
 
-  pub parameter_other : (r.kind ≡ 30 → ⊥) → (r.kind ≡ 31 → ⊥) → option_of Nothing ≡ parameter_at text pattern i params
+  pub parameter_other : (r.kind ≡ 30 → ⊥) → (r.kind ≡ 31 → ⊥) → option_of None ≡ parameter_at text pattern i params
   unfolding parameter_at option_of
   parameter_other v b = rw (← is) (sym (at_other text (params_of params) r (drop (i + 1) (recs pattern)) (no_var r.kind v) (no_bind r.kind b)))
 
-  pub parameter_bind : (f : Found) (b : Bool) → option_of f ≡ named_at text pattern (i + 1) params → b ≡ wildcard_at pattern (i + 2) → b ≡ true → (r.kind ≡ 30 → ⊥) → r.kind ≡ 31
+  pub parameter_bind : (f : Found ℕ) (b : Bool) → option_of f ≡ named_at text pattern (i + 1) params → b ≡ wildcard_at pattern (i + 2) → b ≡ true → (r.kind ≡ 30 → ⊥) → r.kind ≡ 31
       → option_of f ≡ parameter_at text pattern i params
   unfolding named_at parameter_at
   parameter_bind f b e w q v k =
       e ∙ rw (← is) (stands-bind text (params_of params) r (drop (i + 1) (recs pattern)) (no_var r.kind v) (bind r.kind k) (over b w ∙ q))
 
-  pub parameter_kept : (b : Bool) → b ≡ wildcard_at pattern (i + 2) → b ≡ false → (r.kind ≡ 30 → ⊥) → r.kind ≡ 31 → option_of Nothing ≡ parameter_at text pattern i params
+  pub parameter_kept : (b : Bool) → b ≡ wildcard_at pattern (i + 2) → b ≡ false → (r.kind ≡ 30 → ⊥) → r.kind ≡ 31 → option_of None ≡ parameter_at text pattern i params
   unfolding parameter_at option_of
   parameter_kept b w q v k =
       rw (← is) (stands-kept text (params_of params) r (drop (i + 1) (recs pattern)) (no_var r.kind v) (bind r.kind k) (over b w ∙ q))
 
-pub after-var : (kind i : ℕ) → kind ≡ 30 → i + 2 ≡ after_parameter kind i
+pub after_var : (kind i : ℕ) → kind ≡ 30 → i + 2 ≡ after_parameter kind i
 unfolding after_parameter
-after-var kind i e = rw (var kind e) (omega arith)
+after_var kind i e = rw (var kind e) (omega arith)
 
-pub after-bind : (kind i : ℕ) → (kind ≡ 30 → ⊥) → i + 3 ≡ after_parameter kind i
+pub after_bind : (kind i : ℕ) → (kind ≡ 30 → ⊥) → i + 3 ≡ after_parameter kind i
 unfolding after_parameter
-after-bind kind i e = rw (no_var kind e) (omega arith)
+after_bind kind i e = rw (no_var kind e) (omega arith)
 
 -- ---- the record made of one
 
@@ -193,22 +195,18 @@ below-later : (k i : ℕ) → i < after_parameter k i
 unfolding after_parameter
 below-later k i = omega arith
 
-nothing-none : (f : Found) → OneOf (1 ∷ []) (tag_of the_type f) → option_of f ≡ none
-unfolding option_of
-nothing-none (At i) h = absurd (omega arith)
-nothing-none Nothing h = refl
-
-module _ (text pattern params : List ℕ) (i : ℕ) (r : Rec) (f : Found) (is : r ≡ rec_at pattern i) (stands : option_of f ≡ parameter_at text pattern i params) (inside : i < slots pattern) where
-  made_copy : OneOf (1 ∷ []) (tag_of the_type f) → MadeAt text pattern i params r (i + 1)
-  unfolding making_from making parameter_at
+module _ (text pattern params : List ℕ) (i : ℕ) (r : Rec) (f : Found ℕ) (is : r ≡ rec_at pattern i) (stands : option_of f ≡ parameter_at text pattern i params) (inside : i < slots pattern) where
+  made_copy : f ≡ None → MadeAt text pattern i params r (i + 1)
+  unfolding making_from making parameter_at option_of
   made_copy o =
+      let z : option_of f ≡ none = ap option_of o in
       record {
-        made = rw (recs-at pattern i inside, ← stands, nothing-none f o, is);
+        made = rw (recs-at pattern i inside, ← stands, z, is);
         later = omega arith;
         near = omega arith;
       }
 
-  made_arg : (k n : ℕ) → f ≡ At k → n ≡ after_parameter r.kind i → MadeAt text pattern i params (argument r.pos k) n
+  made_arg : (k n : ℕ) → f ≡ Some k → n ≡ after_parameter r.kind i → MadeAt text pattern i params (argument r.pos k) n
   unfolding making_from making parameter_at option_of after_parameter
   made_arg k n e a =
       let z : option_of f ≡ some k = ap option_of e in
@@ -219,41 +217,52 @@ module _ (text pattern params : List ℕ) (i : ℕ) (r : Rec) (f : Found) (is : 
         near = omega (arith, below-near r.kind i (is_var r.kind) refl);
       }
 
-  pub copy_appended : (room : ℕ) (a : List ℕ) (o : ℕ) (b : List ℕ) (y : ℕ) → OneOf (1 ∷ []) (tag_of the_type f) → Wrote room a o (r ∷ []) b y
-      → AppendedAt room a o text pattern i params b (record { written = y; next = i + 1 })
-  copy_appended room a o b y t w = let m = made_copy t in record { first = r; made = m; wrote = w; later = m.later }
+  -- ---- the scan
 
-  pub arg_appended : (room : ℕ) (a : List ℕ) (o : ℕ) (b : List ℕ) (y k n : ℕ) (x : Rec) → f ≡ At k → n ≡ after_parameter r.kind i → x ≡ argument r.pos k → Wrote room a o (x ∷ []) b y
-      → AppendedAt room a o text pattern i params b (record { written = y; next = n })
-  arg_appended room a o b y k n x e q d w = let m = made_arg k n e q in record { first = argument r.pos k; made = m; wrote = rw d at w; later = m.later }
+  module _ (room : ℕ) (a₀ a : List ℕ) (o : ℕ) (whole : List Rec) (inv : Reaches room a₀ whole a o (making_from text pattern i params)) (b : List ℕ) where
+    pub copy_turn : f ≡ None → (n : ℕ) → Wrote room a o (r ∷ []) b (Some n) → Reaches room a₀ whole b n (making_from text pattern (i + 1) params)
+    copy_turn e n w = reaches_more room a₀ a o whole (making_from text pattern i params) inv b n (r ∷ []) (making_from text pattern (i + 1) params) (made_copy e).made w
 
--- ---- the scan
+    pub copy_stop : f ≡ None → Wrote room a o (r ∷ []) b None → Wrote room a₀ 0 whole b None
+    copy_stop e w = reaches_stop room a₀ a o whole (making_from text pattern i params) inv b (r ∷ []) (making_from text pattern (i + 1) params) (made_copy e).made w
 
-module _ (room : ℕ) (a₀ a : List ℕ) (o : ℕ) (whole : List Rec) (text pattern params : List ℕ) (i : ℕ) where
-  pub make_turn : (b : List ℕ) (m : Appended) → AppendedAt room a o text pattern i params b m → Reaches room a₀ whole a o (making_from text pattern i params) → m.written ≤ room
-      → Reaches room a₀ whole b m.written (making_from text pattern m.next params)
-  make_turn b m v inv h = reaches_more room a₀ a o whole (making_from text pattern i params) inv b m.written (v.first ∷ []) (making_from text pattern m.next params) v.made.made v.wrote h
+    pub arg_turn : (k j n : ℕ) (x : Rec) → f ≡ Some k → j ≡ after_parameter r.kind i → x ≡ argument r.pos k → Wrote room a o (x ∷ []) b (Some n) → Reaches room a₀ whole b n (making_from text pattern j params)
+    arg_turn k j n x e q d w = reaches_more room a₀ a o whole (making_from text pattern i params) inv b n (argument r.pos k ∷ []) (making_from text pattern j params) (made_arg k j e q).made (rw d at w)
 
-  pub make_stop : (b : List ℕ) (m : Appended) → AppendedAt room a o text pattern i params b m → Reaches room a₀ whole a o (making_from text pattern i params) → room < m.written
-      → Wrote room a₀ 0 whole b m.written
-  make_stop b m v inv h = reaches_stop room a₀ a o whole (making_from text pattern i params) inv b m.written (v.first ∷ []) (making_from text pattern m.next params) v.made.made v.wrote h
+    pub arg_stop : (k : ℕ) (x : Rec) → f ≡ Some k → x ≡ argument r.pos k → Wrote room a o (x ∷ []) b None → Wrote room a₀ 0 whole b None
+    arg_stop k x e d w = reaches_stop room a₀ a o whole (making_from text pattern i params) inv b (argument r.pos k ∷ []) (making_from text pattern (after_parameter r.kind i) params) (made_arg k (after_parameter r.kind i) e refl).made (rw d at w)
 
-  pub make_end : Reaches room a₀ whole a o (making_from text pattern i params) → slots pattern ≤ i → o ≤ room → Wrote room a₀ 0 whole a o
-  unfolding making_from making
-  make_end inv h k = reaches_end room a₀ a o whole (making text (params_of params) (drop i (recs pattern)) 0) inv (rw (recs-end pattern i h)) k
+pub after_later : (k i n : ℕ) → n ≡ after_parameter k i → i < n
+after_later k i n e = omega (arith, below-later k i)
+
+pub make_end : (room : ℕ) (a₀ a : List ℕ) (o : ℕ) (whole : List Rec) (text pattern params : List ℕ) (i : ℕ) → Reaches room a₀ whole a o (making_from text pattern i params) → slots pattern ≤ i → o ≤ room → Wrote room a₀ 0 whole a (Some o)
+unfolding making_from making
+make_end room a₀ a o whole text pattern params i inv h k = reaches_end room a₀ a o whole (making text (params_of params) (drop i (recs pattern)) 0) inv (rw (recs-end pattern i h)) k
 
 -- ---- the answer
 
-module _ (text pattern params a b : List ℕ) (bad : ℕ) (first : bad ≡ first_of is_arg (recs pattern)) where
-  pub make_refused : (room : ℕ) (l : List Rec) → bad < slots pattern → Answered (template_answer text (recs pattern) (recs params) room) l a b (MacroArg bad)
+module _ (text pattern params a b : List ℕ) where
+  pub make_refused : (bad room : ℕ) (l : List Rec) → bad ≡ first_of is_arg (recs pattern) → bad < slots pattern → Answered (template_answer text (recs pattern) (recs params) room) l a b (Err (MacroArg bad))
   unfolding template_answer
-  make_refused room l h =
+  make_refused bad room l first h =
       let k : bad < length (recs pattern) = omega (arith, length-recs pattern) in
-      answered_refusal (template_answer text (recs pattern) (recs params) room) l a b (MacroArg bad) (λ n q. let z : ◌≡◌ {A = ℕ} 0 1 = cc in omega arith) (rw (← first, lt-ltb bad (length (recs pattern)) k))
+      answered_refusal (template_answer text (recs pattern) (recs params) room) l a b (MacroArg bad) (rw (← first, lt-ltb bad (length (recs pattern)) k))
 
-  pub make_answer : (room y : ℕ) (r : Answer) → Wrote room a 0 (making_from text pattern 0 params) b y → r ≡ settled y room → room ≡ min (length a / 24) 65536 → slots pattern ≤ bad → MakeReady pattern params
-      → Answered (template_answer text (recs pattern) (recs params) (space a)) (template_records text (recs pattern) (recs params)) a b r
-  unfolding template_answer template_records making_from params_of space
-  make_answer room y r w s n h v =
-      let k : length (recs pattern) ≤ bad = omega (arith, length-recs pattern) in
-      rw (← first, le-ltb bad (length (recs pattern)) k, list_make text (trees_of (recs params)) (recs pattern) v.placed, ← n) (settled-answer room a b (making text (trees_of (recs params)) (recs pattern) 0) y r w s n)
+  module _ (room : ℕ) (none_is : slots pattern ≡ first_of is_arg (recs pattern)) (s : room ≡ min (length a / 24) 65536) (v : MakeReady pattern params) where
+    fitted_is : template_answer text (recs pattern) (recs params) (space a) ≡ fitted (making_from text pattern 0 params) room
+    unfolding template_answer template_records making_from params_of space
+    fitted_is =
+        let k : length (recs pattern) ≤ slots pattern = omega (arith, length-recs pattern) in
+        rw (← none_is, le-ltb (slots pattern) (length (recs pattern)) k, list_make text (trees_of (recs params)) (recs pattern) v.placed, ← s)
+
+    records_are : template_records text (recs pattern) (recs params) ≡ making_from text pattern 0 params
+    unfolding template_records making_from params_of
+    records_are = list_make text (trees_of (recs params)) (recs pattern) v.placed
+
+    pub make_full : Wrote room a 0 (making_from text pattern 0 params) b None
+        → Answered (template_answer text (recs pattern) (recs params) (space a)) (template_records text (recs pattern) (recs params)) a b (Err NoSpace)
+    make_full w = rw (fitted_is, records_are) (answered_full room a b (making_from text pattern 0 params) w)
+
+    pub make_all : (n : ℕ) → Wrote room a 0 (making_from text pattern 0 params) b (Some n)
+        → Answered (template_answer text (recs pattern) (recs params) (space a)) (template_records text (recs pattern) (recs params)) a b (Ok n)
+    make_all n w = rw (fitted_is, records_are) (answered_all room a b (making_from text pattern 0 params) n w s)

@@ -10,7 +10,8 @@ use Rattle.trees.specs.declared.Rec.{Rec}
 use Rattle.trees.specs.Tree.{Tree, ∅, ◌▸◌, records, trees_of}
 use Rattle.trees.proofs.Laws.{records_all-one}
 use Rattle.expansion.specs.Templates.{make_template, substitute}
-use Rattle.templates.specs.Answers.{first_of, template_records, substituted_records}
+use Rattle.forms.specs.Lists.{first_of}
+use Rattle.templates.specs.Answers.{template_records, substituted_records}
 
 -- the complete list is the records of the template made
 pub template-is : (text : List ℕ) (pattern params : List Rec) (t : Tree) → trees_of pattern ≡ t ▸ ∅ → template_records text pattern params ≡ records (make_template text (trees_of params) t)

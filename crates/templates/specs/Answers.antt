@@ -1,5 +1,5 @@
 -- What making a template and substituting answer (document 01, 'Templates' and 'Who can cause a refusal'), on lists of records and their trees.
-use Rattle.std.specs.Prelude.{ℕ, suc, ◌-◌, ◌*◌, ◌≤◌, min, ◌≡◌, Bool, true, false, List, [], ◌∷◌, ◌++◌, length, take, replicate, ltb, leb}
+use Rattle.std.specs.Prelude.{ℕ, ◌-◌, ◌*◌, ◌≤◌, min, ◌≡◌, Bool, true, false, Result, Ok, Err, List, ◌++◌, length, take, replicate, ltb, leb}
 use Rattle.trees.specs.Choice.{pick, choose}
 use Rattle.trees.specs.declared.Rec.{Rec}
 use Rattle.trees.specs.Tree.{count, records_all, trees_of}
@@ -8,30 +8,31 @@ use Rattle.records.specs.Result.{accepted, refused}
 use Rattle.expansion.specs.Nodes.{is_macro_arg}
 use Rattle.expansion.specs.Templates.{make_templates, substitutes}
 use Rattle.expansion.specs.Flat.{Placed, All}
-use Rattle.templates.specs.declared.Answer.{Answer}
-use Rattle.templates.specs.declared.Answer.TheVariants.{Accepted, MacroArg, NoPattern, NoSpace}
+use Rattle.forms.specs.Lists.{first_of}
+use Rattle.templates.specs.declared.Refused.{Refused}
+use Rattle.templates.specs.declared.Refused.TheVariants.{MacroArg, NoPattern, NoSpace}
 
 -- ---- the number and the place that document 01 gives to each answer
 
+abbrev pub refusal_of : Refused → ℕ
+refusal_of (MacroArg at) = refused 4 at
+refusal_of (NoPattern at) = refused 5 at
+refusal_of NoSpace = refused 6 0
+
+-- the count of records written, or why there are none
+abbrev pub Answer : Type 0
+Answer = Result ℕ Refused
+
 unfoldable pub number_of : Answer → ℕ
-number_of (Accepted count) = accepted count
-number_of (MacroArg at) = refused 4 at
-number_of (NoPattern at) = refused 5 at
-number_of NoSpace = refused 6 0
+number_of (Ok count) = accepted count
+number_of (Err refused) = refusal_of refused
 
 -- where a count is one that the number has space for
 unfoldable pub Countable : Answer → Type 0
-Countable (Accepted count) = count ≤ 65536
-Countable (MacroArg at) = Unit {0}
-Countable (NoPattern at) = Unit {0}
-Countable NoSpace = Unit {0}
+Countable (Ok count) = count ≤ 65536
+Countable (Err refused) = Unit {0}
 
 -- ---- refusals
-
--- the index of the first record that passes a test, or how many records there are
-unfoldable pub first_of : (Rec → Bool) → List Rec → ℕ
-first_of test [] = 0
-first_of test (r ∷ rs) = pick (test r) 0 (suc (first_of test rs))
 
 -- 4: a MacroArg
 unfoldable pub is_arg : Rec → Bool
@@ -47,11 +48,7 @@ space out = min (slots out) 65536
 
 -- 6: the complete list is longer than the space
 unfoldable pub fitted : List Rec → ℕ → Answer
-fitted complete room = pick (leb (length complete) room) (Accepted (length complete)) NoSpace
-
--- the same by how many records were appended, room + 1 where they do not fit
-unfoldable pub settled : ℕ → ℕ → Answer
-settled y room = pick (ltb room y) NoSpace (Accepted y)
+fitted complete room = pick (leb (length complete) room) (Ok (length complete)) (Err NoSpace)
 
 -- ---- the complete lists, and the answers
 
@@ -60,7 +57,7 @@ template_records text pattern params = records_all (make_templates text (trees_o
 
 unfoldable pub template_answer : List ℕ → List Rec → List Rec → ℕ → Answer
 template_answer text pattern params room =
-    choose (ltb (first_of is_arg pattern) (length pattern)) (λ _. MacroArg (first_of is_arg pattern)) (λ _. fitted (template_records text pattern params) room)
+    choose (ltb (first_of is_arg pattern) (length pattern)) (λ _. Err (MacroArg (first_of is_arg pattern))) (λ _. fitted (template_records text pattern params) room)
 
 unfoldable pub substituted_records : List Rec → List Rec → List Rec
 substituted_records template patterns = records_all (substitutes (trees_of template) (trees_of patterns))
@@ -71,7 +68,7 @@ first_lacking template patterns = first_of (lacks_pattern (count (trees_of patte
 
 unfoldable pub substitute_answer : List Rec → List Rec → ℕ → Answer
 substitute_answer template patterns room =
-    choose (ltb (first_lacking template patterns) (length template)) (λ _. NoPattern (first_lacking template patterns)) (λ _. fitted (substituted_records template patterns) room)
+    choose (ltb (first_lacking template patterns) (length template)) (λ _. Err (NoPattern (first_lacking template patterns))) (λ _. fitted (substituted_records template patterns) room)
 
 -- ---- the promise: r is the answer wanted, and where it accepts n records the complete list stands in the output b, which was a
 
@@ -83,23 +80,19 @@ pub record Written (n : ℕ) (complete : List Rec) (a b : List ℕ) : Type 0 whe
 
 pub record Answered (wanted : Answer) (complete : List Rec) (a b : List ℕ) (r : Answer) : Type 0 where
   pub answer : r ≡ wanted
-  pub output : (n : ℕ) → r ≡ Accepted n → Written n complete a b
+  pub output : (n : ℕ) → r ≡ Ok n → Written n complete a b
 
 -- ---- what an entry leaves in an output: after an acceptance its records, then zeros to its end; after a refusal zeros
 
 -- of an output l
 unfoldable pub cleared : Answer → List ℕ → List ℕ
-cleared (Accepted n) l = take (n * 24) l ++ replicate (length l - n * 24) 0
-cleared (MacroArg at) l = replicate (length l) 0
-cleared (NoPattern at) l = replicate (length l) 0
-cleared NoSpace l = replicate (length l) 0
+cleared (Ok n) l = take (n * 24) l ++ replicate (length l - n * 24) 0
+cleared (Err refused) l = replicate (length l) 0
 
 -- of an output of so many bytes, by the complete list
 unfoldable pub output_of : Answer → List Rec → ℕ → List ℕ
-output_of (Accepted n) complete size = writes (replicate size 0) 0 complete
-output_of (MacroArg at) complete size = replicate size 0
-output_of (NoPattern at) complete size = replicate size 0
-output_of NoSpace complete size = replicate size 0
+output_of (Ok n) complete size = writes (replicate size 0) 0 complete
+output_of (Err refused) complete size = replicate size 0
 
 -- the number returned and the output left, for an answer
 pub record Finished (answer : Answer) (a b : List ℕ) (r : ℕ) : Type 0 where

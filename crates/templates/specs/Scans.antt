@@ -1,5 +1,6 @@
 -- What the scans of making a template and of substituting find at a record.
 use Rattle.std.specs.Prelude.{ℕ, ◌+◌, ◌<◌, ◌≤◌, ◌≡◌, Bool, true, List, [], ◌∷◌, length, get_or, drop, ltb}
+use Rattle.std.specs.Prelude.{Option as Found, Some, None}
 use Rattle.std.proofs.Math.Option.{Option, none, some}
 use Rattle.trees.specs.Choice.{pick}
 use Rattle.trees.specs.declared.Rec.{Rec}
@@ -8,18 +9,14 @@ use Rattle.trees.specs.Names.{spelled}
 use Rattle.records.specs.Slots.{slots, rec_at, recs}
 use Rattle.expansion.specs.Nodes.{is_var, is_macro_arg}
 use Rattle.expansion.specs.Templates.{position}
-use Rattle.expansion.specs.Flat.{span, end_of, tree_records, fill, wildcard_next, stands_at, making}
-use Rattle.templates.specs.Writing.{Wrote}
-use Rattle.templates.specs.declared.making.Found.{Found}
-use Rattle.templates.specs.declared.making.Found.TheVariants.{At, Nothing}
-use Rattle.templates.specs.declared.making.Appended.{Appended}
+use Rattle.expansion.specs.Flat.{span, tree_records, fill, wildcard_next, stands_at, making}
 
 -- ---- making a template
 
 -- an index found, or none
-unfoldable pub option_of : Found → Option ℕ
-option_of (At i) = some i
-option_of Nothing = none
+unfoldable pub option_of : Found ℕ → Option ℕ
+option_of (Some i) = some i
+option_of None = none
 
 -- the parameters
 unfoldable pub params_of : List ℕ → Trees
@@ -60,20 +57,7 @@ pub record MadeAt (text pattern : List ℕ) (i : ℕ) (params : List ℕ) (first
   pub later : i < n
   pub near : n ≤ i + 3
 
--- to the output a with o records that record is appended: the output is b
-pub record AppendedAt (room : ℕ) (a : List ℕ) (o : ℕ) (text pattern : List ℕ) (i : ℕ) (params b : List ℕ) (m : Appended) : Type 0 where
-  pub first : Rec
-  pub made : MadeAt text pattern i params first m.next
-  pub wrote : Wrote room a o (first ∷ []) b m.written
-  pub later : i < m.next
-
 -- ---- substituting
-
--- r is where the tree that starts at slot k ends
-pub record EndOf (list : List ℕ) (k r : ℕ) : Type 0 where
-  pub end : r ≡ end_of (recs list) k
-  pub later : k < r
-  pub inside : r ≤ slots list
 
 -- the table of the starts of m patterns
 pub record Starts (patterns starts : List ℕ) (m : ℕ) : Type 0 where

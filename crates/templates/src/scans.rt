@@ -1,82 +1,45 @@
 // Scans that making a template and substituting share.
-ghost use Rattle.std.specs.Prelude.{◌≡◌, [], ◌∷◌, ◌+◌, ◌-◌, ◌/◌, ◌≤◌, ◌<◌, min};
+ghost use Rattle.std.specs.Prelude.{◌≡◌, [], ◌∷◌, ◌≤◌, ◌<◌, unwrap_or, IfSome};
 ghost use Rattle.records.specs.Slots.{slots, recs};
-ghost use Rattle.templates.specs.Answers.{first_of, is_arg, lacks_pattern, settled};
+ghost use Rattle.forms.specs.Lists.{first_of};
+ghost use Rattle.templates.specs.Answers.{lacks_pattern};
 ghost use Rattle.templates.specs.Writing.{Wrote, slice};
 
-use crate::Answer;
+use forms::scans::first_where;
 use records::{put, rec_at};
 use trees::{Kind, Rec};
 
-// The whole records lent or 65,536, the smaller.
-pub fn space_for(slots: usize) -> usize
-    ensures { result ≡ min slots 65536 }
-{
-    if slots < 65536 {
-        return slots;
-    }
-    65536
-}
-
-fn is_arg(r: Rec) -> bool
-    ensures { result ≡ is_arg r }
-{
-    r.kind == Kind::PatternMacroArg as u8
-}
+// A list that is written has at most so many records.
+pub const MOST: usize = 65536;
 
 // Whether r is a MacroArg with none of n patterns at its index.
 fn lacks_pattern(r: Rec, n: usize) -> bool
     ensures { result ≡ lacks_pattern n r }
 {
-    if r.kind == Kind::PatternMacroArg as u8 {
-        return n as u64 <= r.word1;
-    }
-    false
+    r.kind == Kind::PatternMacroArg as u8 && n as u64 <= r.word1
 }
 
-// The slot of the first MacroArg, or how many records there are.
-pub fn first_arg(list: &[u8]) -> usize
-    ensures { result ≡ first_of is_arg (recs list.now) }
+// The slot of the first MacroArg with none of n patterns at its index.
+pub fn first_lacking(list: &[u8], n: usize) -> Option<usize>
+    ensures inside { IfSome result (λ i. i < slots list.now) }
+    ensures first { unwrap_or result (slots list.now) ≡ first_of (lacks_pattern n) (recs list.now) }
 {
-    let end = list.len() / 24;
-    let mut i = 0;
-    while i < end {
-        if is_arg(rec_at(list, i)) {
-            return i;
-        }
-        i += 1;
-    }
-    i
+    first_where(list, |r| lacks_pattern(r, n))
 }
 
-// The slot of the first MacroArg with none of n patterns at its index, or how many records there are.
-pub fn first_lacking(list: &[u8], n: usize) -> usize
-    ensures { result ≡ first_of (lacks_pattern n) (recs list.now) }
-{
-    let end = list.len() / 24;
-    let mut i = 0;
-    while i < end {
-        if lacks_pattern(rec_at(list, i), n) {
-            return i;
-        }
-        i += 1;
-    }
-    i
-}
-
-// Appends r to an output of o records.
-pub fn append(out: &mut [u8], o: usize, r: Rec, room: usize) -> usize
+// Appends r to an output of o records. How many it has then, or none where there is no room.
+pub fn append(out: &mut [u8], o: usize, r: Rec, room: usize) -> Option<usize>
     requires { room ≤ 65536 }
     ensures { Wrote room out.old o (r ∷ []) out.new result }
 {
     if o < room {
         put(out, o, r);
-        return o + 1;
+        return Some(o + 1);
     }
-    room + 1
+    None
 }
 
-// Appends the records from slot `from` up to slot `upto` of a list to an output of o records.
+// Appends the records from slot `from` up to slot `upto` of a list to an output of o records. How many it has then, or none.
 pub fn append_slice(
     list: &[u8],
     from: usize,
@@ -84,31 +47,18 @@ pub fn append_slice(
     out: &mut [u8],
     o: usize,
     room: usize,
-) -> usize
-    requires { (from ≤ upto) × (upto ≤ slots list.now) × (o ≤ room) × (room ≤ 65536) }
+) -> Option<usize>
+    requires ordered { from ≤ upto }
+    requires inside { upto ≤ slots list.now }
+    requires o_le_room { o ≤ room }
+    requires few { room ≤ 65536 }
     ensures { Wrote room out.old o (slice list.now from upto) out.new result }
 {
     if room - o < upto - from {
-        return room + 1;
+        return None;
     }
-    let mut i = from;
-    let mut n = o;
-    while i < upto {
-        let r = rec_at(list, i);
-        put(out, n, r);
-        i += 1;
-        n += 1;
+    for i in from..upto {
+        put(out, o + (i - from), rec_at(list, i));
     }
-    n
-}
-
-// The answer for an output of y records, or room + 1 where they do not fit.
-pub fn settle(y: usize, room: usize) -> Answer
-    requires { room ≤ 65536 }
-    ensures { result ≡ settled y room }
-{
-    if room < y {
-        return Answer::NoSpace;
-    }
-    Answer::Accepted { count: y as u32 }
+    Some(o + (upto - from))
 }

@@ -13,9 +13,11 @@ use Rattle.records.specs.Result.{refused}
 use Rattle.forms.specs.Kinds.{name, pattern}
 use Rattle.forms.specs.Forms.{is_one, is_many}
 use Rattle.grounds.proofs.Places.{fits-placed, fits-args, fits-names}
-use Rattle.templates.specs.declared.Answer.{Answer}
-use Rattle.templates.specs.Answers.{MakeReady, SubstituteReady, Finished, Answered}
-use Rattle.templates.proofs.AnswerLaws.{finished-output, finished-number}
+use Rattle.records.specs.declared.Ground.{Ground}
+use Rattle.records.specs.declared.Ground.TheVariants.{PartOfARecord, BadToken, MalformedList, MacroArg, MacroArgIndex, NoSpace, TooMuch, TooDeep, UnexpectedToken, UnexpectedEnd, UnknownDefinition, EmptyIdentifier, FirstCharacter, LaterCharacter, NotAConstant, UnknownPragma, TypeModifier, TypeDefinition, Attribute, VerificationAttribute, Extern, RuleName, Priority, Pattern, Expression, UncoveredWord, ExtractorName, ArgumentCount, CallOrder, TooManyExtractors, NotAToken, NotAscii}
+use Rattle.records.specs.Grounds as grounds
+use Rattle.templates.specs.Answers.{Answer, MakeReady, SubstituteReady, Finished, Answered}
+use Rattle.templates.proofs.AnswerLaws.{finished_output, finished_number}
 use Rattle.templating.specs.Calls.{Call, stopped, comes, number, bytes, Ended, sizes, lent}
 
 pub stops : (code r : ℕ) (l l' : List ℕ) → l' ≡ replicate (length l) 0 → r ≡ refused code 0 → Ended (stopped code) (length l) l' r
@@ -61,6 +63,40 @@ module _ (text first second : ℕ) where
 
 -- ---- the checks
 
+pub positive : (g : Ground) → grounds.number g ≡ 0 → ⊥
+positive PartOfARecord e = omega arith
+positive BadToken e = omega arith
+positive MalformedList e = omega arith
+positive MacroArg e = omega arith
+positive MacroArgIndex e = omega arith
+positive NoSpace e = omega arith
+positive TooMuch e = omega arith
+positive TooDeep e = omega arith
+positive UnexpectedToken e = omega arith
+positive UnexpectedEnd e = omega arith
+positive UnknownDefinition e = omega arith
+positive EmptyIdentifier e = omega arith
+positive FirstCharacter e = omega arith
+positive LaterCharacter e = omega arith
+positive NotAConstant e = omega arith
+positive UnknownPragma e = omega arith
+positive TypeModifier e = omega arith
+positive TypeDefinition e = omega arith
+positive Attribute e = omega arith
+positive VerificationAttribute e = omega arith
+positive Extern e = omega arith
+positive RuleName e = omega arith
+positive Priority e = omega arith
+positive Pattern e = omega arith
+positive Expression e = omega arith
+positive UncoveredWord e = omega arith
+positive ExtractorName e = omega arith
+positive ArgumentCount e = omega arith
+positive CallOrder e = omega arith
+positive TooManyExtractors e = omega arith
+positive NotAToken e = omega arith
+positive NotAscii e = omega arith
+
 module _ {A : Type 0} (stop : ℕ → A) (n k : ℕ) (c : A) (e : n ≡ k) where
   pub lent-size : (a b : Bool) → (n ≡ 0 → ⊥) → lent stop k a b c ≡ stop n
   unfolding lent
@@ -101,7 +137,7 @@ short-second text first n l s z = (short text first (length l) (sym z ∙ s)).1
 
 pub finished : (wanted : Answer) (complete : List Rec) (a b c : List ℕ) (r : Answer) (x : ℕ) → Answered wanted complete a b r → Finished r b c x → length b ≡ length a → Ended (comes wanted complete) (length a) c x
 unfolding number bytes
-finished wanted complete a b c r x p q e = record { returns = finished-number wanted complete a b c r x p q; output = finished-output wanted complete a b c r x p q e }
+finished wanted complete a b c r x p q e = record { returns = finished_number wanted complete a b c r x p q; output = finished_output wanted complete a b c r x p q e }
 
 module _ (text : ℕ) (l m : List ℕ) (n : ℕ) (s : n ≡ sizes text (length l) (length m)) (z : n ≡ 0) where
   pub ready_to_make : (x y : Bool) → x ≡ is_one text pattern (recs l) → x ≡ true → y ≡ is_many text name (recs m) → y ≡ true → MakeReady l m

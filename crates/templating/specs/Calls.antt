@@ -1,13 +1,14 @@
 -- What a call on two lent lists answers and leaves in the output, for every input: refusals in the order 7, 1, 3, then 4 or 5, then 6.
-use Rattle.std.specs.Prelude.{ℕ, ◌/◌, ◌%◌, ◌≡◌, Bool, List, length, replicate, ltb, eqb}
+use Rattle.std.specs.Prelude.{ℕ, ◌/◌, ◌%◌, ◌≡◌, Bool, Result, Ok, Err, List, length, replicate, ltb, eqb}
 use Rattle.trees.specs.Choice.{pick}
 use Rattle.trees.specs.declared.Rec.{Rec}
 use Rattle.records.specs.Slots.{recs}
 use Rattle.records.specs.Result.{refused}
 use Rattle.forms.specs.Kinds.{name, pattern}
 use Rattle.forms.specs.Forms.{is_one, is_many}
-use Rattle.templates.specs.declared.Answer.{Answer}
-use Rattle.templates.specs.Answers.{number_of, output_of, space, template_answer, template_records, substitute_answer, substituted_records}
+use Rattle.records.specs.declared.Ground.{Ground}
+use Rattle.records.specs.Grounds as grounds
+use Rattle.templates.specs.Answers.{Answer, number_of, output_of, space, template_answer, template_records, substitute_answer, substituted_records}
 
 -- a refusal at place 0; or the answer for the two lists, with the complete list
 pub data Call : Type 0 where
@@ -28,6 +29,11 @@ bytes n (comes a complete) = output_of a complete n
 pub record Ended (c : Call) (n : ℕ) (l : List ℕ) (r : ℕ) : Type 0 where
   pub returns : r ≡ number c
   pub output : l ≡ bytes n c
+
+-- the number of a ground, 0 where there is none
+abbrev pub refusal : Result (Unit {0}) Ground → ℕ
+refusal (Ok u) = 0
+refusal (Err reason) = grounds.number reason
 
 -- 7 where the text or a list is too long, 1 where a list ends inside a record, 0 for neither; by lengths in bytes
 unfoldable pub sizes : ℕ → ℕ → ℕ → ℕ

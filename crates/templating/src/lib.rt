@@ -3,44 +3,45 @@
 
 ghost use Rattle.std.specs.Prelude.{◌≡◌, ℕ, length};
 ghost use Rattle.records.specs.Slots.{recs};
+ghost use Rattle.records.specs.Grounds.{number};
 ghost use Rattle.templates.specs.Answers.{MakeReady, SubstituteReady, space, template_answer, template_records, substitute_answer, substituted_records};
-ghost use Rattle.templating.specs.Calls.{Ended, stopped, comes, sizes, making, substituting};
+ghost use Rattle.templating.specs.Calls.{Ended, stopped, comes, refusal, sizes, making, substituting};
 
 use forms::judge::{idents, many_patterns, one_pattern};
-use records::refused;
+use records::{Ground, refused_on};
 use templates::finish;
 use templates::making::make_template;
 use templates::substituting::substitute;
 use words::clear;
 
 // A refusal, and an output of zeros.
-pub fn refuse(out: &mut [u8], code: u8) -> u64
-    ensures { Ended (stopped code) (length out.old) out.new result }
+pub fn refuse(out: &mut [u8], reason: Ground) -> u64
+    ensures { Ended (stopped (number reason)) (length out.old) out.new result }
 {
     clear(out);
-    refused(code, 0)
+    refused_on(reason, 0)
 }
 
-// 7 or 1 for a text and two record lists of these lengths in bytes, or 0.
-pub fn sizes(text: usize, first: usize, second: usize) -> u8
-    ensures { result ≡ sizes text first second }
+// A text and two record lists of these lengths in bytes: whether one is too long, or a list ends inside a record.
+pub fn sizes(text: usize, first: usize, second: usize) -> Result<(), Ground>
+    ensures { refusal result ≡ sizes text first second }
 {
-    if 65536 < text {
-        return 7;
+    if text > 65536 {
+        return Err(Ground::TooMuch);
     }
-    if 65536 < first / 24 {
-        return 7;
+    if first / 24 > 65536 {
+        return Err(Ground::TooMuch);
     }
-    if 65536 < second / 24 {
-        return 7;
+    if second / 24 > 65536 {
+        return Err(Ground::TooMuch);
     }
     if first % 24 != 0 {
-        return 1;
+        return Err(Ground::PartOfARecord);
     }
     if second % 24 != 0 {
-        return 1;
+        return Err(Ground::PartOfARecord);
     }
-    0
+    Ok(())
 }
 
 // The template of a pattern that is one.
@@ -56,15 +57,14 @@ fn make_judged(text: &[u8], pattern: &[u8], params: &[u8], out: &mut [u8]) -> u6
 pub fn make(text: &[u8], pattern: &[u8], params: &[u8], out: &mut [u8]) -> u64
     ensures { Ended (making text.now pattern.now params.now out.old) (length out.old) out.new result }
 {
-    let n = sizes(text.len(), pattern.len(), params.len());
-    if n != 0 {
-        return refuse(out, n);
+    if let Err(reason) = sizes(text.len(), pattern.len(), params.len()) {
+        return refuse(out, reason);
     }
     if !one_pattern(pattern, text.len()) {
-        return refuse(out, 3);
+        return refuse(out, Ground::MalformedList);
     }
     if !idents(params, text.len()) {
-        return refuse(out, 3);
+        return refuse(out, Ground::MalformedList);
     }
     make_judged(text, pattern, params, out)
 }
@@ -82,15 +82,14 @@ fn substitute_judged(template: &[u8], patterns: &[u8], out: &mut [u8]) -> u64
 pub fn fill(text: &[u8], template: &[u8], patterns: &[u8], out: &mut [u8]) -> u64
     ensures { Ended (substituting text.now template.now patterns.now out.old) (length out.old) out.new result }
 {
-    let n = sizes(text.len(), template.len(), patterns.len());
-    if n != 0 {
-        return refuse(out, n);
+    if let Err(reason) = sizes(text.len(), template.len(), patterns.len()) {
+        return refuse(out, reason);
     }
     if !one_pattern(template, text.len()) {
-        return refuse(out, 3);
+        return refuse(out, Ground::MalformedList);
     }
     if !many_patterns(patterns, text.len()) {
-        return refuse(out, 3);
+        return refuse(out, Ground::MalformedList);
     }
     substitute_judged(template, patterns, out)
 }

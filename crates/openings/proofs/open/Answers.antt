@@ -1,30 +1,30 @@
 use mathlib.Core.Path.{refl}
 use Rattle.openings.proofs.CallLaws.{wrong_size, wrong_first, wrong_second, right, first_shaped, second_shaped}
-use Rattle.templating.proofs.CallLaws.{short-first, short-second}
+use Rattle.templating.proofs.CallLaws.{positive, short-first, short-second}
 use Rattle.openings.specs.Calls.{opening_of}
 use Rattle.openings.proofs.open.Goals as goal
 
-pub returns-then-n-ne0 : goal.returns-then-n-ne0
+pub returns-in-Err : goal.returns-in-Err
 unfolding opening_of
-returns-then-n-ne0 c = search wrong_size
+returns-in-Err c = wrong_size _ _ _ _ _ _ c.in-Err.ensures _ _ (positive c.in-Err.reason) (rw c.number.ensures at c.refuse.ensures)
 
 pub definitions-requires : goal.definitions-requires
-definitions-requires c = search short-first
+definitions-requires c = short-first _ _ _ _ c.in_default.ensures refl
 
 pub returns-then-not-definitions : goal.returns-then-not-definitions
 unfolding opening_of
-returns-then-not-definitions c = search wrong_first
+returns-then-not-definitions c = wrong_first _ _ _ _ _ _ c.in_default.ensures _ _ _ refl c.definitions.ensures c.if-not-definitions.true c.refuse-then-not-definitions.ensures
 
 pub one_pattern-requires : goal.one_pattern-requires
-one_pattern-requires c = search short-second
+one_pattern-requires c = short-second _ _ _ _ c.in_default.ensures refl
 
 pub returns-then-not-one_pattern : goal.returns-then-not-one_pattern
 unfolding opening_of
-returns-then-not-one_pattern c = search wrong_second
+returns-then-not-one_pattern c = wrong_second _ _ _ _ _ _ c.in_default.ensures _ _ _ _ refl c.definitions.ensures c.if-not-definitions.false c.one_pattern.ensures c.if-not-one_pattern.true c.refuse-then-not-one_pattern.ensures
 
 pub open_judged-requires : goal.open_judged-requires
-open_judged-requires c = (search first_shaped, second_shaped _ _ _ _ c.sizes-n.ensures c.if-n-ne0.false _ _ refl c.one_pattern.ensures c.if-not-one_pattern.false)
+open_judged-requires c = (first_shaped _ _ _ _ c.in_default.ensures refl _ _ refl c.definitions.ensures c.if-not-definitions.false, second_shaped _ _ _ _ c.in_default.ensures refl _ _ refl c.one_pattern.ensures c.if-not-one_pattern.false)
 
 pub returns : goal.returns
 unfolding opening_of
-returns c = search right
+returns c = right _ _ _ _ _ _ c.in_default.ensures _ _ _ _ refl c.definitions.ensures c.if-not-definitions.false c.one_pattern.ensures c.if-not-one_pattern.false c.open_judged.ensures

@@ -2,7 +2,7 @@ use Rattle.templates.proofs.AnswerLaws.{finish_refused, finish_accepted, finish_
 use Rattle.templates.proofs.finish.Goals as goal
 
 pub returns-in_default : goal.returns-in_default
-returns-in_default c = finish_refused _ _ _ _ c.clear.ensures c.number.ensures c.in_default.not-Accepted
+returns-in_default c = finish_refused _ _ _ _ c.clear.ensures c.number.ensures c.in_default.not-Ok
 
 pub number-requires-2 : goal.number-requires-2
 number-requires-2 c = search finish_countable

@@ -1,28 +1,29 @@
-use Rattle.templating.proofs.CallLaws.{wrong_size, wrong_first, wrong_second, right, short-first, short-second, ready_to_make}
+use Rattle.std.proofs.Common.{refl}
+use Rattle.templating.proofs.CallLaws.{positive, wrong_size, wrong_first, wrong_second, right, short-first, short-second, ready_to_make}
 use Rattle.templating.specs.Calls.{making}
 use Rattle.templating.proofs.make.Goals as goal
 
-pub returns-then-n-ne0 : goal.returns-then-n-ne0
+pub returns-in-Err : goal.returns-in-Err
 unfolding making
-returns-then-n-ne0 c = search wrong_size
+returns-in-Err c = wrong_size _ _ _ _ _ _ c.in-Err.ensures _ _ (positive c.in-Err.reason) c.refuse.ensures
 
 pub one_pattern-requires : goal.one_pattern-requires
-one_pattern-requires c = search short-first
+one_pattern-requires c = short-first _ _ _ _ c.in_default.ensures refl
 
 pub returns-then-not-one_pattern : goal.returns-then-not-one_pattern
 unfolding making
-returns-then-not-one_pattern c = search wrong_first
+returns-then-not-one_pattern c = wrong_first _ _ _ _ _ _ c.in_default.ensures _ _ _ refl c.one_pattern.ensures c.if-not-one_pattern.true c.refuse-then-not-one_pattern.ensures
 
 pub idents-requires : goal.idents-requires
-idents-requires c = search short-second
+idents-requires c = short-second _ _ _ _ c.in_default.ensures refl
 
 pub returns-then-not-idents : goal.returns-then-not-idents
 unfolding making
-returns-then-not-idents c = search wrong_second
+returns-then-not-idents c = wrong_second _ _ _ _ _ _ c.in_default.ensures _ _ _ _ refl c.one_pattern.ensures c.if-not-one_pattern.false c.idents.ensures c.if-not-idents.true c.refuse-then-not-idents.ensures
 
 pub make_judged-requires : goal.make_judged-requires
-make_judged-requires c = ready_to_make _ _ _ _ c.sizes-n.ensures c.if-n-ne0.false _ _ c.one_pattern.ensures c.if-not-one_pattern.false c.idents.ensures c.if-not-idents.false
+make_judged-requires c = ready_to_make _ _ _ _ c.in_default.ensures refl _ _ c.one_pattern.ensures c.if-not-one_pattern.false c.idents.ensures c.if-not-idents.false
 
 pub returns : goal.returns
 unfolding making
-returns c = search right
+returns c = right _ _ _ _ _ _ c.in_default.ensures _ _ _ _ refl c.one_pattern.ensures c.if-not-one_pattern.false c.idents.ensures c.if-not-idents.false c.make_judged.ensures

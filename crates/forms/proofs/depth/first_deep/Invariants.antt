@@ -1,6 +1,4 @@
-use mathlib.Core.Path.{◌≡◌}
-use Prim.Native.Nat.{◌≤◌, ◌+◌, ◌-◌, ◌*◌}
-use lib.ListN.{length}
+use Rattle.std.proofs.Common.{◌≡◌, ◌≤◌, ◌+◌, ◌*◌}
 use Rattle.records.specs.Slots.{recs}
 use Rattle.forms.specs.Stack.{pending}
 use Rattle.forms.specs.Lists.{left, first_is}
@@ -8,7 +6,4 @@ use Rattle.forms.specs.Depth.{flat_depths, first_deep_in, Small}
 use Rattle.forms.proofs.depth.first_deep.Given as goal
 
 abbrev pub invariant-loop-i : goal.invariant-loop-i
-invariant-loop-i l = (l.depth ≤ 64) × (length l.counts ≡ 64) × Small (65536 * l.i) (pending l.counts l.depth) × (l.i + first_is 65 (flat_depths (pending l.counts l.depth) (left l.list l.i)) ≡ first_deep_in (recs l.list))
-
-abbrev pub decreases-loop-i : goal.decreases-loop-i
-decreases-loop-i l = l.n - l.i
+invariant-loop-i l = (l.depth ≤ 64) × Small (65536 * l.i) (pending l.counts l.depth) × (l.i + first_is 65 (flat_depths (pending l.counts l.depth) (left l.list l.i)) ≡ first_deep_in (recs l.list))

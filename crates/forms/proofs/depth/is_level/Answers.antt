@@ -1,8 +1,8 @@
-use Rattle.forms.proofs.DepthTurns.{level-pattern, level-other}
+use Rattle.forms.proofs.DepthTurns.{sort_level, no_level}
 use Rattle.forms.proofs.depth.is_level.Goals as goal
 
-pub returns-then-s-eq1 : goal.returns-then-s-eq1
-returns-then-s-eq1 c = search level-pattern
+pub returns-in-None : goal.returns-in-None
+returns-in-None c = search no_level
 
-pub returns : goal.returns
-returns c = search level-other
+pub returns-in-Some : goal.returns-in-Some
+returns-in-Some c = search sort_level

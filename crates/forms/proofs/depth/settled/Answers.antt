@@ -1,12 +1,11 @@
-use borrow.Author.Rules.{rules}
-use Rattle.forms.proofs.DepthTurns.{settle_stop, settle-more, settle-end}
+use Rattle.forms.proofs.DepthTurns.{settle_stop, settle_more, settle_end}
 use Rattle.forms.proofs.depth.settled.Goals as goal
 
-pub returns-then-counts-d-ne0 : goal.returns-then-counts-d-ne0
-returns-then-counts-d-ne0 c = (search settle_stop, search rules)
+pub returns-then-counts-d-ne0-clause-left : goal.returns-then-counts-d-ne0-clause-left
+returns-then-counts-d-ne0-clause-left c = search settle_stop
 
 pub loop-d-preserved : goal.loop-d-preserved
-loop-d-preserved c = (search rules, search settle-more)
+loop-d-preserved c = search settle_more
 
-pub returns : goal.returns
-returns c = (search settle-end, search rules)
+pub returns-clause-left : goal.returns-clause-left
+returns-clause-left c = search settle_end

@@ -1,12 +1,14 @@
 use Rattle.forms.proofs.DepthTurns.{step_room, step_top, step_level, step_plain}
-use borrow.Author.Rules.{rules}
 use Rattle.forms.proofs.depth.step.Goals as goal
 
-pub enter_level-requires : goal.enter_level-requires
-enter_level-requires c = (search step_room, search rules)
+pub enter_level-requires-clause-room : goal.enter_level-requires-clause-room
+enter_level-requires-clause-room c = search step_room
 
-pub returns-then-level : goal.returns-then-level
-returns-then-level c = (search step_level, search step_top)
+pub returns-then-level-clause-read : goal.returns-then-level-clause-read
+returns-then-level-clause-read c = search step_level
 
-pub returns : goal.returns
-returns c = (search step_plain, search rules)
+pub returns-then-level-clause-still_open : goal.returns-then-level-clause-still_open
+returns-then-level-clause-still_open c = search step_top
+
+pub returns-clause-read : goal.returns-clause-read
+returns-clause-read c = search step_plain

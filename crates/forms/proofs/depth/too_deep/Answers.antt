@@ -1,8 +1,8 @@
-use Rattle.forms.proofs.DepthTurns.{deep-level, deep-plain}
+use Rattle.forms.proofs.DepthTurns.{deep_level, deep_plain}
 use Rattle.forms.proofs.depth.too_deep.Goals as goal
 
 pub returns-then-level : goal.returns-then-level
-returns-then-level c = search deep-level
+returns-then-level c = search deep_level
 
-pub returns : goal.returns
-returns c = search deep-plain
+pub returns-else-level : goal.returns-else-level
+returns-else-level c = search deep_plain

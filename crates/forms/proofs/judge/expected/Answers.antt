@@ -1,8 +1,5 @@
-use Rattle.forms.proofs.StackLaws.{pending_base, pending_next}
+use Rattle.forms.proofs.StackLaws.{next_is}
 use Rattle.forms.proofs.judge.expected.Goals as goal
 
-pub returns-then-top-eq0 : goal.returns-then-top-eq0
-returns-then-top-eq0 c = search pending_base
-
 pub returns : goal.returns
-returns c = search pending_next
+returns c = search next_is

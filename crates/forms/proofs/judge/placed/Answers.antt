@@ -1,8 +1,5 @@
-use Rattle.forms.proofs.JudgeLaws.{placed_at, placed-plain}
+use Rattle.forms.proofs.JudgeLaws.{placed_none}
 use Rattle.forms.proofs.judge.placed.Goals as goal
 
-pub returns-then-s-eq10 : goal.returns-then-s-eq10
-returns-then-s-eq10 c = search placed_at
-
-pub returns : goal.returns
-returns c = search placed-plain
+pub returns-in-None : goal.returns-in-None
+returns-in-None c = search placed_none

@@ -1,8 +1,8 @@
-use Rattle.forms.proofs.JudgeLaws.{position-none, position_any}
+use Rattle.forms.proofs.JudgeLaws.{position_any, position_none}
 use Rattle.forms.proofs.judge.position_ok.Goals as goal
 
-pub returns-then-position-eq0 : goal.returns-then-position-eq0
-returns-then-position-eq0 c = search position-none
+pub returns-then-position : goal.returns-then-position
+returns-then-position c = search position_any
 
-pub returns : goal.returns
-returns c = search position_any
+pub returns-else-position : goal.returns-else-position
+returns-else-position c = search position_none

@@ -1,6 +1,5 @@
-use Rattle.forms.proofs.StackLaws.{pushed-leading}
-use borrow.Author.Rules.{rules}
+use Rattle.forms.proofs.StackLaws.{pushed_leading}
 use Rattle.forms.proofs.judge.push_leading.Goals as goal
 
-pub returns : goal.returns
-returns c = (search pushed-leading, search rules)
+pub returns-clause-pushed : goal.returns-clause-pushed
+returns-clause-pushed c = search pushed_leading

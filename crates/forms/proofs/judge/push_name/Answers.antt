@@ -1,6 +1,5 @@
-use Rattle.forms.proofs.StackLaws.{pushed-name}
-use borrow.Author.Rules.{rules}
+use Rattle.forms.proofs.StackLaws.{pushed_name}
 use Rattle.forms.proofs.judge.push_name.Goals as goal
 
-pub returns : goal.returns
-returns c = (search pushed-name, search rules)
+pub returns-clause-pushed : goal.returns-clause-pushed
+returns-clause-pushed c = search pushed_name

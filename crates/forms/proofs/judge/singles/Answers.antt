@@ -1,5 +1,5 @@
-use Rattle.forms.proofs.JudgeLaws.{singles-sum}
+use Rattle.forms.proofs.JudgeLaws.{singles_are}
 use Rattle.forms.proofs.judge.singles.Goals as goal
 
 pub returns : goal.returns
-returns c = search singles-sum
+returns c = search singles_are

@@ -1,14 +1,20 @@
-use Rattle.forms.proofs.JudgeLaws.{words_integer, words_second, words_index, words_reach}
+use Rattle.forms.proofs.JudgeLaws.{words_empty, words_not_empty, words_index, words_integer, words_range, words_not_range}
 use Rattle.forms.proofs.judge.words_ok.Goals as goal
 
-pub returns-then-w-eq2 : goal.returns-then-w-eq2
-returns-then-w-eq2 c = search words_integer
+pub returns-then-a-eq0 : goal.returns-then-a-eq0
+returns-then-a-eq0 c = search words_empty
 
-pub returns-then-b-ne0 : goal.returns-then-b-ne0
-returns-then-b-ne0 c = search words_second
+pub returns-else-a-eq0 : goal.returns-else-a-eq0
+returns-else-a-eq0 c = search words_not_empty
 
-pub returns-then-w-eq1 : goal.returns-then-w-eq1
-returns-then-w-eq1 c = search words_index
+pub returns-in-Index : goal.returns-in-Index
+returns-in-Index c = search words_index
 
-pub returns : goal.returns
-returns c = search words_reach
+pub returns-in-Integer : goal.returns-in-Integer
+returns-in-Integer c = search words_integer
+
+pub returns-then-b-eq0 : goal.returns-then-b-eq0
+returns-then-b-eq0 c = search words_range
+
+pub returns-else-b-eq0 : goal.returns-else-b-eq0
+returns-else-b-eq0 c = search words_not_range

@@ -1,15 +1,10 @@
-use borrow.Author.Rules.{rules}
-use Rattle.forms.proofs.SkipLaws.{arg_start, arg_here, arg_again, arg_end}
+use Rattle.std.proofs.Common.{rules, ◌∙◌, eqb}
+use Rattle.forms.proofs.SkipLaws.{first_where, first_kind}
 use Rattle.forms.proofs.scans.first_macro_arg.Goals as goal
 
-pub loop-i-init : goal.loop-i-init
-loop-i-init c = (search rules, arg_start _)
+pub returns-clause-inside : goal.returns-clause-inside
+returns-clause-inside c = c.first_where.ensures.inside
 
-pub returns-then-r-eq38 : goal.returns-then-r-eq38
-returns-then-r-eq38 c = search arg_here
-
-pub loop-i-preserved : goal.loop-i-preserved
-loop-i-preserved c = (search rules, search arg_again)
-
-pub returns : goal.returns
-returns c = search arg_end
+pub returns-clause-first : goal.returns-clause-first
+returns-clause-first c =
+    first_where (λ r. eqb r.kind 38) c.args.list.now _ _ c.first_where.ensures (λ r b p. search rules) ∙ first_kind 38 _

@@ -1,15 +1,14 @@
 use Rattle.forms.proofs.TableLaws.{row-rule, row-kind, row_past, row_bad_flags}
-use borrow.Author.Rules.{rules}
 use Rattle.forms.proofs.table.row_number.Goals as goal
 
-pub returns-then-flags-lt4 : goal.returns-then-flags-lt4
-returns-then-flags-lt4 c = (search rules, search row-rule)
+pub returns-then-flags-lt4-clause-row : goal.returns-then-flags-lt4-clause-row
+returns-then-flags-lt4-clause-row c = search row-rule
 
-pub returns-then-kind-eq20 : goal.returns-then-kind-eq20
-returns-then-kind-eq20 c = (search rules, search row_bad_flags)
+pub returns-then-kind-clause-row : goal.returns-then-kind-clause-row
+returns-then-kind-clause-row c = search row_bad_flags
 
-pub returns-then-kind-lt-KINDS_END : goal.returns-then-kind-lt-KINDS_END
-returns-then-kind-lt-KINDS_END c = (search rules, search row-kind)
+pub returns-then-kind-lt-KINDS_END-clause-row : goal.returns-then-kind-lt-KINDS_END-clause-row
+returns-then-kind-lt-KINDS_END-clause-row c = search row-kind
 
-pub returns : goal.returns
-returns c = (search rules, search row_past)
+pub returns-clause-row : goal.returns-clause-row
+returns-clause-row c = search row_past

@@ -1,14 +1,10 @@
-use Rattle.templates.proofs.ScanLaws.{first-start, first_turn, first-here, first-end}
+use Rattle.std.proofs.Common.{rules}
+use Rattle.forms.proofs.SkipLaws.{first_where}
+use Rattle.templates.specs.Answers.{lacks_pattern}
 use Rattle.templates.proofs.scans.first_lacking.Goals as goal
 
-pub loop-i-init : goal.loop-i-init
-loop-i-init c = search first-start
+pub returns-clause-inside : goal.returns-clause-inside
+returns-clause-inside c = c.first_where.ensures.inside
 
-pub returns-then-lacks_pattern : goal.returns-then-lacks_pattern
-returns-then-lacks_pattern c = search first-here
-
-pub loop-i-preserved : goal.loop-i-preserved
-loop-i-preserved c = search first_turn
-
-pub returns : goal.returns
-returns c = search first-end
+pub returns-clause-first : goal.returns-clause-first
+returns-clause-first c = first_where (lacks_pattern c.args.n) c.args.list.now _ _ c.first_where.ensures (λ r b p. search rules)

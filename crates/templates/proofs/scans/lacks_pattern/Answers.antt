@@ -4,5 +4,5 @@ use Rattle.templates.proofs.scans.lacks_pattern.Goals as goal
 pub returns-then-r : goal.returns-then-r
 returns-then-r c = search lacks_arg
 
-pub returns : goal.returns
-returns c = search lacks_other
+pub returns-else-r : goal.returns-else-r
+returns-else-r c = search lacks_other

@@ -1,14 +1,18 @@
-use Rattle.templates.proofs.FillLaws.{find-start, find-room, find_turn, find-end}
+use Rattle.std.proofs.Common.{arith}
+use Rattle.templates.proofs.FillLaws.{find_start, find_room, find_turn, find_end, find_later}
 use Rattle.templates.proofs.substituting.find_starts.Goals as goal
 
 pub loop-i-init : goal.loop-i-init
-loop-i-init c = search find-start
+loop-i-init c = search find_start
 
 pub bounds-starts-n : goal.bounds-starts-n
-bounds-starts-n c = search find-room
+bounds-starts-n c = find_room _ _ _ _ _ c.loop-i.invariant (omega arith) c.requires.room
+
+pub loop-i-smaller : goal.loop-i-smaller
+loop-i-smaller c = omega (arith, find_later _ _ _ c.skip-i.ensures (omega arith))
 
 pub loop-i-preserved : goal.loop-i-preserved
-loop-i-preserved c = search find_turn
+loop-i-preserved c = find_turn _ _ _ _ _ c.loop-i.invariant _ c.skip-i.ensures (omega arith) c.requires.room
 
 pub returns : goal.returns
-returns c = search find-end
+returns c = find_end _ _ _ _ _ c.loop-i.invariant (omega arith) c.requires.room

@@ -1,4 +1,4 @@
-use Prim.Native.Nat.{◌-◌}
+use Rattle.std.proofs.Common.{◌-◌}
 use Rattle.templates.proofs.FillLaws.{Finding}
 use Rattle.templates.proofs.substituting.find_starts.Given as goal
 

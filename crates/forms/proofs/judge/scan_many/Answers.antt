@@ -1,5 +1,0 @@
-use Rattle.forms.proofs.ScanLaws.{same_pending}
-use Rattle.forms.proofs.judge.scan_many.Goals as goal
-
-pub returns : goal.returns
-returns c = search same_pending
