@@ -16,10 +16,11 @@ use Rattle.grounds.specs.Stages.{first_from, found, verdict, marks_all}
 use Rattle.grounds.specs.Order.{is_some, call_flaw, named_in, named_again, its_calls}
 use Rattle.grounds.proofs.StageLaws.{or_else_none}
 use Rattle.grounds.proofs.At.{here}
-use Rattle.judging.specs.declared.Judged.{Judged}
-use Rattle.judging.specs.declared.Judged.TheVariants.{Fine, Flawed}
+use Rattle.std.specs.Prelude.{Ok, Err}
+use Rattle.records.specs.declared.Ground.TheVariants.{ExtractorName}
+use Rattle.judging.specs.declared.Flaw.{Flaw}
 use Rattle.judging.specs.Table.{looked}
-use Rattle.judging.specs.Judging.{Low, children_at, Known, known_all, its_flaw, Scanned, ExtractorAt, site_at, StageJudged, ExtractorJudged}
+use Rattle.judging.specs.Judging.{flaw, Judged, Low, children_at, Known, known_all, its_flaw, Scanned, ExtractorAt, site_at, StageJudged, ExtractorJudged}
 use Rattle.judging.proofs.GivenLaws.{flawed_first, fine-next, flawed_fine}
 use Rattle.judging.proofs.CallLaws.{name-is, name_not}
 
@@ -39,13 +40,13 @@ module _ (defs : List ℕ) (i c : ℕ) (x : ExtractorAt defs i c) where
       ap (named_in text E) (children_are ∙ ap (λ (m : ℕ). firsts m (trees_of (drop (i + 1) (recs defs)))) e) ∙ rw (here defs (i + 1) x.more)
 
   module _ (text t : List ℕ) (n earlier : ℕ) (name : Rec) (is : name ≡ rec_at defs (i + 1)) (y : ℕ) (at : y ≡ looked text t name.word1 0 earlier) where
-    pub again_flawed : y < earlier → StageJudged (named_again text) text t n earlier defs i (Flawed 30 i)
+    pub again_flawed : y < earlier → StageJudged (named_again text) text t n earlier defs i (Err (flaw ExtractorName i))
     unfolding first_from Low
     again_flawed h =
         let l : looked text t (rec_at defs (i + 1)).word1 0 earlier < earlier = rw (← is, ← at) h in
         record { gives = λ k. rw (first-name text k.first, name-is text t (rec_at defs (i + 1)).word1 n earlier 0 k l); low = omega (arith, x.more) }
 
-    pub again_fine : earlier ≤ y → (m : ℕ) → StageJudged (named_again text) text t n earlier defs i (Fine m)
+    pub again_fine : earlier ≤ y → (m : ℕ) → StageJudged (named_again text) text t n earlier defs i (Ok m)
     unfolding first_from Low
     again_fine h m =
         let l : earlier ≤ looked text t (rec_at defs (i + 1)).word1 0 earlier = rw (← is, ← at) h in
@@ -54,11 +55,11 @@ module _ (defs : List ℕ) (i c : ℕ) (x : ExtractorAt defs i c) where
   -- ---- its stages in their order
 
   module _ (text t : List ℕ) (n earlier : ℕ) where
-    pub by_again : (j : Judged) (f k : ℕ) → j ≡ Flawed f k → StageJudged (named_again text) text t n earlier defs i j → ExtractorJudged text t n earlier defs i j
+    pub by_again : (f : Flaw) → StageJudged (named_again text) text t n earlier defs i (Err f) → ExtractorJudged text t n earlier defs i (Err f)
     unfolding verdict
-    by_again j f k e q = record { gives = λ y. flawed_first j f k _ _ e (q.gives y); low = q.low; ends = λ m d. absurd (flawed_fine j f k m e d) }
+    by_again f q = record { gives = λ y. flawed_first f _ _ (q.gives y); low = q.low; ends = λ m d. absurd (flawed_fine f m d) }
 
-    module _ (again : Judged) (m : ℕ) (v : again ≡ Fine m) (r : StageJudged (named_again text) text t n earlier defs i again) where
+    module _ (m : ℕ) (r : StageJudged (named_again text) text t n earlier defs i (Ok m)) where
       calls_at : (y : Known text t n earlier) → first_from (i + 1) (marks_all (call_flaw text (known_all y) y.first) (firsts c (trees_of (drop (i + 1) (recs defs))))) ≡ found (its_calls text (known_all y) (site_at defs i y.first))
       calls_at y = ap (λ (ts : Trees). first_from (i + 1) (marks_all (call_flaw text (known_all y) y.first) ts)) (sym children_are) ∙ rw (add-one i)
 
@@ -66,7 +67,7 @@ module _ (defs : List ℕ) (i c : ℕ) (x : ExtractorAt defs i c) where
       unfolding verdict child_at
       by_calls j q =
           record {
-            gives = λ y. fine-next again j m _ _ v (r.gives y) (q.gives y ∙ calls_at y ∙ sym (or_else_none (found (its_calls text (known_all y) (site_at defs i y.first)))));
+            gives = λ y. fine-next j m _ _ (r.gives y) (q.gives y ∙ calls_at y ∙ sym (or_else_none (found (its_calls text (known_all y) (site_at defs i y.first)))));
             low = q.low;
             ends = λ l e. q.ends l e ∙ ap (λ (d : ℕ). i + 1 + span (drop (i + 1) (recs defs)) d) x.size ∙ child-last (recs defs) i (rec_at defs i) (here defs i (omega (arith, x.more)));
           }

@@ -23,8 +23,8 @@ use Rattle.grounds.specs.Stages.{Refusal, ◌or_else◌, verdict, in_turn}
 use Rattle.grounds.specs.Order.{Site, stages_of, sites}
 use Rattle.grounds.proofs.StageLaws.{verdict_++}
 use Rattle.grounds.proofs.At.{here, past, length-recs, skip-end, kids_at, trees-at, end_more, end-upto, tree-size, two-children, second-there}
-use Rattle.judging.specs.declared.Judged.{Judged}
-use Rattle.judging.specs.declared.Judged.TheVariants.{Fine, Flawed}
+use Rattle.std.specs.Prelude.{Ok, Err}
+use Rattle.judging.specs.declared.Flaw.{Flaw}
 use Rattle.judging.specs.Table.{Table}
 use Rattle.judging.specs.Judging.{Low, Known, known_all, ExtractorAt, site_at, ExtractorJudged, turns, ListJudged}
 use Rattle.judging.specs.Whole.{DefinitionsShaped}
@@ -67,7 +67,7 @@ module _ (text defs t : List ℕ) (n earlier i end : ℕ) (g : Listing text defs
   pub listing_rows : 3 * n ≤ length t
   listing_rows = omega (arith, b.few, b.long)
 
-  pub listing_end : (m : ℕ) → end ≤ i → ListJudged text defs (Fine m)
+  pub listing_end : (m : ℕ) → end ≤ i → ListJudged text defs (Ok m)
   unfolding Low trees_of sites in_turn verdict
   listing_end m h = let z : drop i (recs defs) ≡ [] = past defs i (omega arith) in record { gives = sym (g.leads ∙ rw z); low = tt }
 
@@ -137,15 +137,14 @@ module _ (text defs t : List ℕ) (n earlier i end : ℕ) (g : Listing text defs
           ∙ ap (λ (F : Extractors). verdict (stages_of text F (record { place = i; children = kids_at (recs defs) i r spot; earlier = g.first })) or_else others-after) g.whole
           ∙ ap (λ (s : Rec). verdict (stages_of text (known_all known) (record { place = i; children = firsts s.count (trees_of (drop (i + 1) (recs defs))); earlier = g.first })) or_else others-after) is
 
-      pub listing_flawed : (j : Judged) (f p : ℕ) → j ≡ Flawed f p → ExtractorJudged text t n earlier defs i j → ListJudged text defs j
+      pub listing_flawed : (f : Flaw) → ExtractorJudged text t n earlier defs i (Err f) → ListJudged text defs (Err f)
       unfolding table_known
-      listing_flawed (Fine m) f p h q = absurd (let z : ◌≡◌ {A = ℕ} 0 1 = cc in omega arith)
-      listing_flawed (Flawed m l) f p h q = record { gives = ap (◌or_else others-after) (q.gives known) ∙ sym (g.leads ∙ this); low = q.low }
+      listing_flawed f q = record { gives = ap (◌or_else others-after) (q.gives known) ∙ sym (g.leads ∙ this); low = q.low }
 
-      pub listing_after : (j : Judged) (next : ℕ) → j ≡ Fine next → ExtractorJudged text t n earlier defs i j → end - next < end - i
-      listing_after j next e q = omega (arith, q.ends next e, end_more (recs defs) i r spot)
+      pub listing_after : (next : ℕ) → ExtractorJudged text t n earlier defs i (Ok next) → end - next < end - i
+      listing_after next q = omega (arith, q.ends next refl, end_more (recs defs) i r spot)
 
-      listing_next : (next : ℕ) → ExtractorJudged text t n earlier defs i (Fine next) → Listing text defs t n (earlier + 1) next
+      pub listing_next : (next : ℕ) → ExtractorJudged text t n earlier defs i (Ok next) → Listing text defs t n (earlier + 1) next
       unfolding table_known
       listing_next next q =
           let e : next ≡ end_of (recs defs) i = q.ends next refl in
@@ -160,6 +159,3 @@ module _ (text defs t : List ℕ) (n earlier i end : ℕ) (g : Listing text defs
             whole = rw e (whole-next true has_kind);
             leads = g.leads ∙ this ∙ ap (◌or_else others-after) (sym (q.gives known)) ∙ rw e;
           }
-
-      pub listing_on : (j : Judged) (next : ℕ) → j ≡ Fine next → ExtractorJudged text t n earlier defs i j → Listing text defs t n (earlier + 1) next
-      listing_on j next e q = listing_next next (rw e at q)

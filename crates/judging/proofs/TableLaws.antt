@@ -21,11 +21,12 @@ use Rattle.expansion.specs.Expansion.{Named, named, Extractor, Extractors, extra
 use Rattle.expansion.specs.Flat.{after, end_of, Placed, All}
 use Rattle.expansion.proofs.IndexLaws.{all-at}
 use Rattle.expansion.proofs.StoreLaws.{extractor-at}
-use Rattle.judging.specs.declared.Judged.TheVariants.{Fine, Flawed}
+use Rattle.std.specs.Prelude.{Ok, Err}
+use Rattle.records.specs.declared.Ground.TheVariants.{TooManyExtractors}
 use Rattle.grounds.specs.Stages.{first_from}
 use Rattle.grounds.specs.Order.{extractor_places}
 use Rattle.judging.specs.Table.{name_in, arity_in, place_in, looked, RowOf, Rows, RowRoom}
-use Rattle.judging.specs.Judging.{Low}
+use Rattle.judging.specs.Judging.{flaw, Low}
 use Rattle.judging.specs.Whole.{DefinitionsShaped, Tabled}
 use Rattle.grounds.proofs.At.{here, past, length-recs, skip-end, kids_at, trees-at, end_more, end-upto, tree-size, two-children, second-there}
 
@@ -93,7 +94,7 @@ module _ (defs t₀ t : List ℕ) (n i end : ℕ) (g : Making defs t₀ t n i) (
   a : All Placed (recs defs)
   a = g.shape.placed
 
-  pub making-end : end ≤ i → Tabled defs t (Fine n)
+  pub making-end : end ≤ i → Tabled defs t (Ok n)
   unfolding Low first_from extractor_places extractors trees_of
   making-end h =
       let z : drop i (recs defs) ≡ [] = past defs i (omega arith) in
@@ -149,7 +150,7 @@ module _ (defs t₀ t : List ℕ) (n i end : ℕ) (g : Making defs t₀ t n i) (
           rows = λ text. let s = g.rows text in (s.0, s.1, s.2 ∙ ap (s.0 ++◌) (extractors-next false (other k) text), s.3);
         })
 
-    pub making-many : r.kind ≡ 19 → n ≡ 256 → Tabled defs t (Flawed 33 i)
+    pub making-many : r.kind ≡ 19 → n ≡ 256 → Tabled defs t (Err (flaw TooManyExtractors i))
     unfolding Low first_from
     making-many k m =
         let p = g.places in

@@ -1,5 +1,5 @@
 -- What judging the definitions once, and then a pattern, promises: the verdict on the whole order.
-use Rattle.std.specs.Prelude.{◌≡◌, List, ℕ, ◌+◌, ◌≤◌}
+use Rattle.std.specs.Prelude.{◌≡◌, Ok, List, ℕ, ◌+◌, ◌≤◌}
 use Rattle.std.proofs.Math.Option.{Option}
 use Rattle.trees.specs.Tree.{∅, ◌▸◌, trees_of}
 use Rattle.records.specs.Slots.{slots, recs}
@@ -8,11 +8,9 @@ use Rattle.grounds.specs.Stages.{Refusal, ◌or_else◌, found, verdict}
 use Rattle.grounds.specs.Order.{macro_args, too_deeps, too_many, extractor_places, of_definitions, grounds}
 use Rattle.grounds.specs.Opening.{tree_of}
 use Rattle.grounds.specs.Leaves.{ExtractorPlaced}
-use Rattle.judging.specs.declared.Judged.{Judged}
-use Rattle.judging.specs.declared.Judged.TheVariants.{Fine}
 use Rattle.judging.specs.declared.whole.Findings.{Findings}
 use Rattle.judging.specs.Table.{Table}
-use Rattle.judging.specs.Judging.{Answers}
+use Rattle.judging.specs.Judging.{Judged, Answers}
 
 -- ---- what is known of lent lists that are of their kind and within the limits
 
@@ -31,12 +29,12 @@ pub record PatternShaped (pattern : List ℕ) : Type 0 where
 -- making the table; a fine answer is how many extractors it holds
 pub record Tabled (defs t : List ℕ) (r : Judged) : Type 0 where
   pub answers : Answers (found (too_many (extractor_places 0 (trees_of (recs defs))))) (slots defs) r
-  pub table : (n : ℕ) → r ≡ Fine n → (text : List ℕ) → Table text defs t n
+  pub table : (n : ℕ) → r ≡ Ok n → (text : List ℕ) → Table text defs t n
 
 -- 33, and the extractors' stages; a fine answer is how many extractors the table holds
 pub record OthersJudged (text defs t : List ℕ) (r : Judged) : Type 0 where
   pub answers : Answers (verdict (of_definitions text (trees_of (recs defs)))) (slots defs) r
-  pub table : (n : ℕ) → r ≡ Fine n → Table text defs t n
+  pub table : (n : ℕ) → r ≡ Ok n → Table text defs t n
 
 -- all that is found in them, whatever the pattern: 4; 8; the others
 pub record FoundIn (text defs t : List ℕ) (f : Findings) : Type 0 where
@@ -57,4 +55,4 @@ both defs pattern =
 -- all grounds; a fine answer is how many extractors the table holds
 pub record Grounded (text defs pattern t : List ℕ) (r : Judged) : Type 0 where
   pub answers : Answers (grounds text (trees_of (recs defs)) (tree_of (recs pattern))) (slots defs + slots pattern) r
-  pub table : (n : ℕ) → r ≡ Fine n → Table text defs t n
+  pub table : (n : ℕ) → r ≡ Ok n → Table text defs t n

@@ -4,9 +4,10 @@ ghost use Rattle.records.specs.Slots.{slots, rec_at};
 ghost use Rattle.judging.specs.Table.{RowRoom};
 ghost use Rattle.judging.specs.Whole.{DefinitionsShaped, Tabled};
 
-use crate::Judged;
+use crate::Flaw;
 use forms::scans::skip;
-use records::{rec_at, slots};
+use records::{Ground, rec_at, slots};
+use trees::Kind;
 
 fn add_row(table: &mut [u64], n: usize, name: u64, arity: u64, place: u64)
     requires { 3 * n + 3 ≤ length table.old }
@@ -28,7 +29,7 @@ fn add_extractor(defs: &[u8], table: &mut [u64], n: usize, i: usize)
 }
 
 // Fills the table with the extractors of a definition list: their number, or 33 at the 257th.
-pub fn make_table(defs: &[u8], table: &mut [u64]) -> Judged
+pub fn make_table(defs: &[u8], table: &mut [u64]) -> Result<usize, Flaw>
     requires { DefinitionsShaped defs.now × (768 ≤ length table.old) }
     ensures { Tabled defs.now table.new result }
 {
@@ -37,16 +38,19 @@ pub fn make_table(defs: &[u8], table: &mut [u64]) -> Judged
     let mut i = 0;
     while i < end {
         let r = rec_at(defs, i);
-        if r.kind != 19 {
+        if r.kind != Kind::Extractor as u8 {
             i = skip(defs, i, 1);
             continue;
         }
         if n == 256 {
-            return Judged::Flawed(33, i);
+            return Err(Flaw {
+                reason: Ground::TooManyExtractors,
+                place: i,
+            });
         }
         add_extractor(defs, table, n, i);
         n += 1;
         i = skip(defs, i, 1);
     }
-    Judged::Fine(n)
+    Ok(n)
 }

@@ -8,62 +8,62 @@ ghost use Rattle.grounds.specs.Order.{macro_args, too_deeps};
 ghost use Rattle.judging.specs.Judging.{Answers, Low, moved};
 ghost use Rattle.judging.specs.Whole.{DefinitionsShaped, PatternShaped, OthersJudged, FoundIn, both, Grounded};
 
-use crate::Judged;
+use crate::Flaw;
 use crate::calls::judge_calls;
 use crate::extractors::judge_definitions;
 use crate::table::make_table;
 use forms::depth::first_deep;
 use forms::scans::first_macro_arg;
-use records::slots;
+use records::{Ground, slots};
 
 // What is found in the definitions, whatever the pattern: 4; 8; and 33 or the first of the extractors' stages, or their number.
 #[derive(Clone, Copy)]
 pub struct Findings {
-    pub args: Judged,
-    pub deep: Judged,
-    pub others: Judged,
+    pub args: Result<usize, Flaw>,
+    pub deep: Result<usize, Flaw>,
+    pub others: Result<usize, Flaw>,
 }
 
 // 4: the first MacroArg of a list whose first record has the place d.
-fn judge_args(src: &[u8], d: usize) -> Judged
+fn judge_args(src: &[u8], d: usize) -> Result<usize, Flaw>
     requires { (slots src.now ≤ 65536) × (d ≤ 65536) × All Placed (recs src.now) }
     ensures { Answers (found (macro_args (trees_of (recs src.now)) d)) (d + slots src.now) result }
 {
     let n = slots(src);
     let a = first_macro_arg(src);
     if a < n {
-        return Judged::Flawed(4, d + a);
+        return Err(Flaw {
+            reason: Ground::MacroArg,
+            place: d + a,
+        });
     }
-    Judged::Fine(0)
+    Ok(0)
 }
 
 // 8: the first pattern or expression at depth 65.
-fn judge_deep(src: &[u8], d: usize) -> Judged
+fn judge_deep(src: &[u8], d: usize) -> Result<usize, Flaw>
     requires { (slots src.now ≤ 65536) × (d ≤ 65536) × All Placed (recs src.now) }
     ensures { Answers (found (too_deeps (trees_of (recs src.now)) d)) (d + slots src.now) result }
 {
     let n = slots(src);
     let a = first_deep(src);
     if a < n {
-        return Judged::Flawed(8, d + a);
+        return Err(Flaw {
+            reason: Ground::TooDeep,
+            place: d + a,
+        });
     }
-    Judged::Fine(0)
+    Ok(0)
 }
 
 // 33, then the extractors: their number, which the table then holds, or the refusal.
-fn judge_others(text: &[u8], defs: &[u8], table: &mut [u64]) -> Judged
+fn judge_others(text: &[u8], defs: &[u8], table: &mut [u64]) -> Result<usize, Flaw>
     requires { DefinitionsShaped defs.now × (768 ≤ length table.old) }
     ensures { OthersJudged text.now defs.now table.new result }
 {
-    let t = make_table(defs, table);
-    let Judged::Fine(n) = t else {
-        return t;
-    };
-    let j = judge_definitions(text, table, n, defs);
-    let Judged::Fine(_) = j else {
-        return j;
-    };
-    Judged::Fine(n)
+    let n = make_table(defs, table)?;
+    judge_definitions(text, table, n, defs)?;
+    Ok(n)
 }
 
 // The definitions, once.
@@ -82,49 +82,48 @@ pub fn judge_once(text: &[u8], defs: &[u8], table: &mut [u64]) -> Findings
 }
 
 // 4 of both lists, then 8 of both.
-fn judge_both(defs: &[u8], pattern: &[u8], args: Judged, deep: Judged) -> Judged
+fn judge_both(
+    defs: &[u8],
+    pattern: &[u8],
+    args: Result<usize, Flaw>,
+    deep: Result<usize, Flaw>,
+) -> Result<usize, Flaw>
     requires { DefinitionsShaped defs.now × PatternShaped pattern.now × Answers (found (macro_args (trees_of (recs defs.now)) 0)) (slots defs.now) args × Answers (found (too_deeps (trees_of (recs defs.now)) 0)) (slots defs.now) deep }
     ensures { Answers (both defs.now pattern.now) (slots defs.now + slots pattern.now) result }
 {
-    let Judged::Fine(_) = args else {
-        return args;
-    };
-    let a = judge_args(pattern, slots(defs));
-    let Judged::Fine(_) = a else {
-        return a;
-    };
-    let Judged::Fine(_) = deep else {
-        return deep;
-    };
+    args?;
+    judge_args(pattern, slots(defs))?;
+    deep?;
     judge_deep(pattern, slots(defs))
 }
 
 // An answer whose place goes on after d records.
-fn after_list(j: Judged, n: usize, d: usize) -> Judged
+fn after_list(j: Result<usize, Flaw>, n: usize, d: usize) -> Result<usize, Flaw>
     requires { (d ≤ 65536) × Low 65536 j }
     ensures { result ≡ moved j n d }
 {
     match j {
-        Judged::Fine(_) => Judged::Fine(n),
-        Judged::Flawed(f, k) => Judged::Flawed(f, d + k),
+        Ok(_) => Ok(n),
+        Err(flaw) => Err(Flaw {
+            reason: flaw.reason,
+            place: d + flaw.place,
+        }),
     }
 }
 
 // A pattern after the definitions: the number of extractors, or the refusal.
-pub fn judge_pattern(text: &[u8], defs: &[u8], table: &[u64], f: Findings, pattern: &[u8]) -> Judged
+pub fn judge_pattern(
+    text: &[u8],
+    defs: &[u8],
+    table: &[u64],
+    f: Findings,
+    pattern: &[u8],
+) -> Result<usize, Flaw>
     requires { DefinitionsShaped defs.now × PatternShaped pattern.now × FoundIn text.now defs.now table.now f }
     ensures { Grounded text.now defs.now pattern.now table.now result }
 {
-    let args = f.args;
-    let deep = f.deep;
-    let b = judge_both(defs, pattern, args, deep);
-    let Judged::Fine(_) = b else {
-        return b;
-    };
-    let others = f.others;
-    let Judged::Fine(n) = others else {
-        return others;
-    };
+    judge_both(defs, pattern, f.args, f.deep)?;
+    let n = f.others?;
     let c = judge_calls(text, table, n, n, pattern, 0, 1);
     after_list(c, n, slots(defs))
 }

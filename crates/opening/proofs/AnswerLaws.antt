@@ -26,21 +26,21 @@ use Rattle.grounds.proofs.Exactly.{space_numbered}
 use Rattle.grounds.proofs.Accepted.{acceptable}
 use Rattle.grounds.proofs.Answers.{fits-space}
 use Rattle.grounds.proofs.At.{here as spot, length-recs, end-upto}
-use Rattle.judging.specs.declared.Judged.{Judged}
-use Rattle.judging.specs.declared.Judged.TheVariants.{Fine, Flawed}
-use Rattle.judging.specs.Judging.{given, Low}
+use Rattle.std.specs.Prelude.{Ok, Err}
+use Rattle.records.specs.declared.Ground.TheVariants.{NoSpace}
+use Rattle.records.specs.Grounds.{number}
+use Rattle.judging.specs.declared.Flaw.{Flaw}
+use Rattle.judging.specs.Judging.{flaw, Low}
 use Rattle.judging.specs.Whole.{DefinitionsShaped, PatternShaped, Grounded}
 use Rattle.judging.proofs.ShapeLaws.{pattern-there}
 use Rattle.judging.proofs.ScanLaws.{tree-inside}
-use Rattle.opening.specs.declared.Answer.{Answer}
-use Rattle.opening.specs.declared.Answer.TheVariants.{Accepted, Refused as Stopped}
 use Rattle.opening.specs.Wrote.{Wrote, all, full}
 use Rattle.opening.specs.Ends.{EndsFrom}
 use Rattle.opening.specs.Made.{params_at}
 use Rattle.opening.specs.Walk.{Readied, Room, Opened}
 use Rattle.opening.specs.Store.{extractors_in, Source, Stored}
-use Rattle.opening.specs.Answers.{Outputs, outputs, space_of, space_in, begun, Countable, answer_of}
-use Rattle.opening.specs.Work.{ReadyFor, PatternOpened, Accepting, TemplatesAsked, PatternAsked, PatternAnswered, LastAsked, Work, WorkAsked, StoreDone, as_answer, Begin, Answers}
+use Rattle.opening.specs.Answers.{Outputs, outputs, space_of, space_in, begun, Answer, Countable, answer_of}
+use Rattle.opening.specs.Work.{ReadyFor, PatternOpened, Accepting, TemplatesAsked, PatternAsked, PatternAnswered, LastAsked, Work, WorkAsked, StoreDone, Begin, Answers}
 use Rattle.opening.proofs.WroteLaws.{wrote-store}
 use Rattle.opening.proofs.ReadyLaws.{fits-calls, templates-length, tree-records}
 
@@ -96,27 +96,27 @@ module _ (text defs p : List ℕ) (b b' : Outputs) where
   abbrev due : Written
   due = all_opened text (trees_of (recs defs)) (tree_of (recs p))
 
-  answers-refused : (f k : ℕ) → outcome ≡ refuse (refusal f k) → k < 131072 → Answers text defs p b b' (Stopped f k)
+  answers-refused : (f : Flaw) → outcome ≡ refuse (refusal (number f.reason) f.place) → f.place < 131072 → Answers text defs p b b' (Err f)
   unfolding answer_of Countable Begin
-  answers-refused f k e h = record { answer = rw e; countable = h; records = rw e tt }
+  answers-refused f e h = record { answer = rw e; countable = h; records = rw e tt }
 
   -- by a ground
-  answers-ground : (f k : ℕ) → grounds text (trees_of (recs defs)) (tree_of (recs p)) ≡ some (refusal f k) → k < 131072 → Answers text defs p b b' (Stopped f k)
+  answers-ground : (f : Flaw) → grounds text (trees_of (recs defs)) (tree_of (recs p)) ≡ some (refusal (number f.reason) f.place) → f.place < 131072 → Answers text defs p b b' (Err f)
   unfolding opening
-  answers-ground f k e h = answers-refused f k (rw (verdict_++ (order text (trees_of (recs defs)) (tree_of (recs p))) (of_space (space_in b) (counts_of due)), e)) h
+  answers-ground f e h = answers-refused f (rw (verdict_++ (order text (trees_of (recs defs)) (tree_of (recs p))) (of_space (space_in b) (counts_of due)), e)) h
 
   module _ (fine : grounds text (trees_of (recs defs)) (tree_of (recs p)) ≡ none) where
     -- by lack of space
-    answers-space : (f k : ℕ) → Refused (of_space (space_in b) (counts_of due)) f k → k < 131072 → Answers text defs p b b' (Stopped f k)
+    answers-space : (f : Flaw) → Refused (of_space (space_in b) (counts_of due)) (number f.reason) f.place → f.place < 131072 → Answers text defs p b b' (Err f)
     unfolding opening
-    answers-space f k r h =
-        answers-refused f k (rw (
+    answers-space f r h =
+        answers-refused f (rw (
           verdict_++ (order text (trees_of (recs defs)) (tree_of (recs p))) (of_space (space_in b) (counts_of due)),
           fine,
-          (refused_exactly (of_space (space_in b) (counts_of due)) (space_numbered (space_in b) (counts_of due)) f k).1 r,
+          (refused_exactly (of_space (space_in b) (counts_of due)) (space_numbered (space_in b) (counts_of due)) (number f.reason) f.place).1 r,
         )) h
 
-    answers-accepted : (n : Counts) → n ≡ counts_of due → Fits (space_in b) n → b' ≡ begun due b → Answers text defs p b b' (Accepted n)
+    answers-accepted : (n : Counts) → n ≡ counts_of due → Fits (space_in b) n → b' ≡ begun due b → Answers text defs p b b' (Ok n)
     unfolding opening answer_of Countable Begin space_in
     answers-accepted n e f w =
         let g : Fits (space_in b) (counts_of due) = rw (← e) f in
@@ -134,25 +134,17 @@ module _ (text defs p : List ℕ) (b b' : Outputs) where
 
 -- ---- the grounds
 
-pub refused-is : (j : Judged) (f k : ℕ) → j ≡ Flawed f k → Stopped f k ≡ as_answer j
-refused-is j f k e = rw e
-
-pub fine-is : (j : Judged) (n : ℕ) → j ≡ Fine n → Accepted (counts 0 0) ≡ as_answer j
-fine-is j n e = rw e
-
-pub answer-refused : (text defs p t s o s' o' : List ℕ) (j : Judged) (f k : ℕ) (a : Answer) → a ≡ as_answer j → j ≡ Flawed f k → Grounded text defs p t j → DefinitionsShaped defs → PatternShaped p
-    → Answers text defs p (outputs s o) (outputs s' o') a
+pub answer-refused : (text defs p t s o s' o' : List ℕ) (f : Flaw) → Grounded text defs p t (Err f) → DefinitionsShaped defs → PatternShaped p → Answers text defs p (outputs s o) (outputs s' o') (Err f)
 unfolding Low
-answer-refused text defs p t s o s' o' (Fine n) f k a c e g d q = absurd (let z : ◌≡◌ {A = ℕ} 0 1 = cc in omega arith)
-answer-refused text defs p t s o s' o' (Flawed f' k') f k a c e g d q = rw c (answers-ground text defs p (outputs s o) (outputs s' o') f' k' (sym g.answers.gives) (omega (arith, g.answers.low, d.few, q.small)))
+answer-refused text defs p t s o s' o' f g d q = answers-ground text defs p (outputs s o) (outputs s' o') f (sym g.answers.gives) (omega (arith, g.answers.low, d.few, q.small))
 
-pub grounds-fine : (text defs p t : List ℕ) (j : Judged) (n : ℕ) → j ≡ Fine n → Grounded text defs p t j → DefinitionsShaped defs → PatternShaped p → Accepting text t n defs p
-grounds-fine text defs p t j n e g d q =
-    let f : grounds text (trees_of (recs defs)) (tree_of (recs p)) ≡ none = sym g.answers.gives ∙ ap given e in
+pub grounds-fine : (text defs p t : List ℕ) (n : ℕ) → Grounded text defs p t (Ok n) → DefinitionsShaped defs → PatternShaped p → Accepting text t n defs p
+grounds-fine text defs p t n g d q =
+    let f : grounds text (trees_of (recs defs)) (tree_of (recs p)) ≡ none = sym g.answers.gives in
     let named = (rw q.one at (list-named (recs p) q.placed)).0 in
     let a = acceptable text (trees_of (recs defs)) (tree_of (recs p)) (list-named (recs defs) d.placed) named f in
     record {
-      definitions = record { shape = d; table = g.table n e; fine = a.definitions };
+      definitions = record { shape = d; table = g.table n refl; fine = a.definitions };
       pattern = record { shape = q; fine = a.pattern };
       fine = f;
     }
@@ -231,11 +223,11 @@ module _ (text t : List ℕ) (n : ℕ) (defs p ends : List ℕ) (s o : List ℕ)
   within fits (full b c d e) = absurd (omega arith)
   within fits (all b c d e f g k) = (omega arith, f, k)
 
-  store-full : space.store < y → Answers text defs p (outputs s o) (outputs s₁ o₁) (Stopped 6 0)
+  store-full : space.store < y → Answers text defs p (outputs s o) (outputs s₁ o₁) (Err (flaw NoSpace 0))
   unfolding of_space Refused counts_of space_in
   store-full h =
       let l : space_of s < length templates = rw (← (store_is s o space is)) (over stored.wrote h) in
-      answers-space text defs p (outputs s o) (outputs s₁ o₁) a.fine 6 0 (here (refl, refl, l) (λ m j k f. omega (arith, f.1))) (omega arith)
+      answers-space text defs p (outputs s o) (outputs s₁ o₁) a.fine (flaw NoSpace 0) (here (refl, refl, l) (λ m j k f. omega (arith, f.1))) (omega arith)
 
   module _ (fits : y ≤ space.store) where
     pattern-room : (q : ℕ) → q ≡ space.output → Room true q (get_or starts n 0) s₁ o₁ 0
@@ -301,13 +293,13 @@ module _ (text t : List ℕ) (n : ℕ) (defs p ends : List ℕ) (s o : List ℕ)
       store-fits : length templates ≤ space_of s
       store-fits = omega (arith, (within fits stored.wrote).0, store_is s o space is)
 
-      out-full : q < z → Answers text defs p (outputs s o) (outputs s₂ o₂) (Stopped 6 1)
+      out-full : q < z → Answers text defs p (outputs s o) (outputs s₂ o₂) (Err (flaw NoSpace 1))
       unfolding of_space Refused counts_of space_in
       out-full h =
           let m : space_of o < length result = rw (← (output-is s o space is), ← there-is) (out_over w h) in
-          answers-space text defs p (outputs s o) (outputs s₂ o₂) a.fine 6 1 (later (λ n k f. omega (arith, f.2, store-fits)) (here (refl, refl, m) (λ n k l f. omega (arith, f.1)))) (omega arith)
+          answers-space text defs p (outputs s o) (outputs s₂ o₂) a.fine (flaw NoSpace 1) (later (λ n k f. omega (arith, f.2, store-fits)) (here (refl, refl, m) (λ n k l f. omega (arith, f.1)))) (omega arith)
 
-      all-written : z ≤ q → Answers text defs p (outputs s o) (outputs s₂ o₂) (Accepted (counts y z))
+      all-written : z ≤ q → Answers text defs p (outputs s o) (outputs s₂ o₂) (Ok (counts y z))
       unfolding counts_of space_in begun
       all-written h =
           let v = within fits stored.wrote in
@@ -322,7 +314,7 @@ module _ (text t : List ℕ) (n : ℕ) (defs p ends : List ℕ) (s o : List ℕ)
     pattern_answered : 256 < length starts → (s₂ o₂ : List ℕ) (c : Answer) → PatternAnswered y space text t n starts p s₁ o₁ s₂ o₂ c → Answers text defs p (outputs s o) (outputs s₂ o₂) c
     pattern_answered m s₂ o₂ c d = rw d.answer (go (dec_lt space.output d.end))
       where
-        go : Dec (space.output < d.end) → Answers text defs p (outputs s o) (outputs s₂ o₂) (pick (ltb space.output d.end) (Stopped 6 1) (Accepted (counts y d.end)))
+        go : Dec (space.output < d.end) → Answers text defs p (outputs s o) (outputs s₂ o₂) (pick (ltb space.output d.end) (Err (flaw NoSpace 1)) (Ok (counts y d.end)))
         go (yes l) = rw (lt-ltb space.output d.end l) (out-full space.output refl m s₂ o₂ d.end d.opened l)
         go (no l) = let k : d.end ≤ space.output = omega arith in rw (le-ltb space.output d.end k) (all-written space.output refl m s₂ o₂ d.end d.opened k)
 
@@ -343,7 +335,7 @@ unfolding LastAsked
 last_asked text t n p ends starts s o y space a = a
 
 module _ (text t : List ℕ) (n : ℕ) (defs p : List ℕ) (b : Outputs) (space : Counts) (ends starts s o : List ℕ) (y : ℕ) (done : StoreDone text t n defs p b space ends starts s o y) where
-  pub done_full : space.store < y → Answers text defs p b (outputs s o) (Stopped 6 0)
+  pub done_full : space.store < y → Answers text defs p b (outputs s o) (Err (flaw NoSpace 0))
   done_full h = done.full h
 
   pub done_next : y ≤ space.store → LastAsked text t n p ends starts s o y space
@@ -353,8 +345,8 @@ module _ (text t : List ℕ) (n : ℕ) (defs p : List ℕ) (b : Outputs) (space 
   done-after h = done.after h
 
 module _ (y : ℕ) (space : Counts) (text t : List ℕ) (n : ℕ) (starts p s o s' o' : List ℕ) (z : ℕ) (done : PatternOpened 0 space.output text t n starts p s o s' o' z) where
-  pub last-full : space.output < z → PatternAnswered y space text t n starts p s o s' o' (Stopped 6 1)
+  pub last-full : space.output < z → PatternAnswered y space text t n starts p s o s' o' (Err (flaw NoSpace 1))
   last-full h = record { end = z; opened = done; answer = rw (lt-ltb space.output z h) }
 
-  pub last_fits : z ≤ space.output → PatternAnswered y space text t n starts p s o s' o' (Accepted (counts y z))
+  pub last_fits : z ≤ space.output → PatternAnswered y space text t n starts p s o s' o' (Ok (counts y z))
   last_fits h = record { end = z; opened = done; answer = rw (le-ltb space.output z h) }

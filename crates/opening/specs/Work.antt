@@ -1,27 +1,25 @@
 -- What the functions that open judged lists may count on, and what they promise.
-use Rattle.std.specs.Prelude.{◌≡◌, true, List, [], ℕ, ◌<◌, ◌≤◌, ltb, length, get_or}
+use Rattle.std.specs.Prelude.{◌≡◌, Ok, Err, true, List, [], ℕ, ◌<◌, ◌≤◌, ltb, length, get_or}
 use Rattle.std.proofs.Math.Option.{none}
 use Rattle.trees.specs.Choice.{pick}
 use Rattle.trees.specs.Tree.{Tree, trees_of}
 use Rattle.records.specs.Slots.{slots, recs}
+use Rattle.records.specs.declared.Ground.TheVariants.{NoSpace}
 use Rattle.expansion.specs.Expansion.{Named}
 use Rattle.expansion.specs.Acceptance.{PatternFine, AllFine}
 use Rattle.expansion.specs.Flat.{opened_at}
 use Rattle.grounds.specs.declared.Counts.{Counts}
 use Rattle.grounds.specs.Order.{grounds}
 use Rattle.grounds.specs.Opening.{tree_of, counts, counts_of, Fits, Outcome, accept, refuse, opening}
-use Rattle.judging.specs.declared.Judged.{Judged}
-use Rattle.judging.specs.declared.Judged.TheVariants.{Fine, Flawed}
+use Rattle.judging.specs.Judging.{flaw}
 use Rattle.judging.specs.Table.{Table}
 use Rattle.judging.specs.Whole.{DefinitionsShaped, PatternShaped}
-use Rattle.opening.specs.declared.Answer.{Answer}
-use Rattle.opening.specs.declared.Answer.TheVariants.{Accepted, Refused}
 use Rattle.opening.specs.Wrote.{Wrote}
 use Rattle.opening.specs.Ends.{EndsFrom}
 use Rattle.opening.specs.Made.{params_at}
 use Rattle.opening.specs.Walk.{Ready, Room}
 use Rattle.opening.specs.Store.{extractors_in}
-use Rattle.opening.specs.Answers.{Countable, answer_of, Outputs, outputs, space_in, begun}
+use Rattle.opening.specs.Answers.{Answer, numbered, Countable, answer_of, Outputs, outputs, space_in, begun}
 
 -- ---- what is known
 
@@ -77,7 +75,7 @@ LastAsked text t n p ends starts store out y space = PatternAsked text t n p end
 pub record PatternAnswered (y : ℕ) (space : Counts) (text t : List ℕ) (n : ℕ) (starts p s o s' o' : List ℕ) (a : Answer) : Type 0 where
   pub end : ℕ
   pub opened : PatternOpened 0 space.output text t n starts p s o s' o' end
-  pub answer : a ≡ pick (ltb space.output end) (Refused 6 1) (Accepted (counts y end))
+  pub answer : a ≡ pick (ltb space.output end) (Err (flaw NoSpace 1)) (Ok (counts y end))
 
 -- what the two may count on, one after the other; under the second name a search for a proof does not look into it
 pub record Work (text t : List ℕ) (n : ℕ) (defs p ends : List ℕ) (b : Outputs) (space : Counts) : Type 0 where
@@ -91,11 +89,6 @@ WorkAsked text t n defs p ends b space = Work text t n defs p ends b space
 
 -- ---- the whole answer
 
--- a refusal as the answer
-abbrev pub as_answer : Judged → Answer
-as_answer (Fine n) = Accepted (counts 0 0)
-as_answer (Flawed f k) = Refused f k
-
 -- where an outcome accepts, the outputs begin with what it writes, which fits
 unfoldable pub Begin : Outcome → Outputs → Outputs → Type 0
 Begin (accept w) b b' = (b' ≡ begun w b) × Fits (space_in b) (counts_of w)
@@ -103,12 +96,12 @@ Begin (refuse r) b b' = Unit {0}
 
 -- the whole answer
 pub record Answers (text defs p : List ℕ) (b b' : Outputs) (a : Answer) : Type 0 where
-  pub answer : a ≡ answer_of (opening text (trees_of (recs defs)) (tree_of (recs p)) (space_in b))
+  pub answer : numbered a ≡ answer_of (opening text (trees_of (recs defs)) (tree_of (recs p)) (space_in b))
   pub countable : Countable a
   pub records : Begin (opening text (trees_of (recs defs)) (tree_of (recs p)) (space_in b)) b b'
 
 -- the store got y records, for the call of the pattern p with the outputs b: 6 at 0, or the pattern can be opened, and its answer is the call's
 pub record StoreDone (text t : List ℕ) (n : ℕ) (defs p : List ℕ) (b : Outputs) (space : Counts) (ends starts s o : List ℕ) (y : ℕ) : Type 0 where
-  pub full : space.store < y → Answers text defs p b (outputs s o) (Refused 6 0)
+  pub full : space.store < y → Answers text defs p b (outputs s o) (Err (flaw NoSpace 0))
   pub next : y ≤ space.store → LastAsked text t n p ends starts s o y space
   pub after : y ≤ space.store → (s' o' : List ℕ) (a : Answer) → PatternAnswered y space text t n starts p s o s' o' a → Answers text defs p b (outputs s' o') a

@@ -4,16 +4,15 @@ ghost use Rattle.records.specs.Slots.{slots};
 ghost use Rattle.judging.specs.Whole.{DefinitionsShaped, PatternShaped};
 ghost use Rattle.opening.specs.Store.{Stored};
 ghost use Rattle.opening.specs.Answers.{outputs, space_of};
-ghost use Rattle.opening.specs.Work.{PatternOpened, PatternAnswered, TemplatesAsked, PatternAsked, LastAsked, WorkAsked, StoreDone, Accepting, Answers, as_answer};
+ghost use Rattle.opening.specs.Work.{PatternOpened, PatternAnswered, TemplatesAsked, PatternAsked, LastAsked, WorkAsked, StoreDone, Accepting, Answers};
 
-use crate::Answer;
 use crate::ends::fill_ends;
 use crate::store::fill_store;
 use crate::walk::open_one;
 use grounds::Counts;
-use judging::Judged;
+use judging::Flaw;
 use judging::whole::{judge_once, judge_pattern};
-use records::slots;
+use records::{Ground, slots};
 
 // The space of an output: its whole records, but at most 65,536.
 fn space_in(bytes: &[u8]) -> usize
@@ -98,16 +97,19 @@ fn open_last(
     out: &mut [u8],
     y: usize,
     space: Counts,
-) -> Answer
+) -> Result<Counts, Flaw>
     requires { LastAsked text.now table.now n pattern.now ends.old starts.now store.old out.old y space }
     ensures { PatternAnswered y space text.now table.now n starts.now pattern.now store.old out.old store.new out.new result }
 {
     let o = space.output;
     let z = open_pattern(text, table, n, pattern, ends, starts, store, out, 0, o);
     if o < z {
-        return Answer::Refused(6, 1);
+        return Err(Flaw {
+            reason: Ground::NoSpace,
+            place: 1,
+        });
     }
-    Answer::Accepted(Counts {
+    Ok(Counts {
         store: y,
         output: z,
     })
@@ -124,7 +126,7 @@ fn open_fine(
     store: &mut [u8],
     out: &mut [u8],
     space: Counts,
-) -> Answer
+) -> Result<Counts, Flaw>
     requires { WorkAsked text.now table.now n defs.now pattern.now ends.old (outputs store.old out.old) space }
     ensures { Answers text.now defs.now pattern.now (outputs store.old out.old) (outputs store.new out.new) result }
 {
@@ -142,22 +144,12 @@ fn open_fine(
         space,
     );
     if space.store < y {
-        return Answer::Refused(6, 0);
+        return Err(Flaw {
+            reason: Ground::NoSpace,
+            place: 0,
+        });
     }
     open_last(text, table, n, pattern, ends, &starts, store, out, y, space)
-}
-
-// A refusal as the answer.
-fn refusal_of(j: Judged) -> Answer
-    ensures { result ≡ as_answer j }
-{
-    match j {
-        Judged::Fine(_) => Answer::Accepted(Counts {
-            store: 0,
-            output: 0,
-        }),
-        Judged::Flawed(f, k) => Answer::Refused(f, k),
-    }
 }
 
 // The same, with the space of the outputs.
@@ -170,7 +162,7 @@ fn open_judged(
     ends: &mut [u32],
     store: &mut [u8],
     out: &mut [u8],
-) -> Answer
+) -> Result<Counts, Flaw>
     requires { Accepting text.now table.now n defs.now pattern.now × (slots defs.now ≤ length ends.old) × (slots pattern.now ≤ length ends.old) }
     ensures { Answers text.now defs.now pattern.now (outputs store.old out.old) (outputs store.new out.new) result }
 {
@@ -189,15 +181,12 @@ pub fn open_into(
     ends: &mut [u32],
     store: &mut [u8],
     out: &mut [u8],
-) -> Answer
+) -> Result<Counts, Flaw>
     requires { DefinitionsShaped defs.now × PatternShaped pattern.now × (slots defs.now ≤ length ends.old) × (slots pattern.now ≤ length ends.old) }
     ensures { Answers text.now defs.now pattern.now (outputs store.old out.old) (outputs store.new out.new) result }
 {
     let mut table = [0u64; 768];
     let f = judge_once(text, defs, &mut table);
-    let j = judge_pattern(text, defs, &table, f, pattern);
-    let Judged::Fine(n) = j else {
-        return refusal_of(j);
-    };
+    let n = judge_pattern(text, defs, &table, f, pattern)?;
     open_judged(text, &table, n, defs, pattern, ends, store, out)
 }

@@ -4,11 +4,11 @@ use Rattle.judging.proofs.table.make_table.Goals as goal
 pub loop-i-init : goal.loop-i-init
 loop-i-init c = search making-start
 
-pub loop-i-smaller-then-r-ne19 : goal.loop-i-smaller-then-r-ne19
-loop-i-smaller-then-r-ne19 c = search making_less
+pub loop-i-smaller-then-r : goal.loop-i-smaller-then-r
+loop-i-smaller-then-r c = search making_less
 
-pub loop-i-preserved-then-r-ne19 : goal.loop-i-preserved-then-r-ne19
-loop-i-preserved-then-r-ne19 c = search making-other
+pub loop-i-preserved-then-r : goal.loop-i-preserved-then-r
+loop-i-preserved-then-r c = search making-other
 
 pub returns-then-n-eq256 : goal.returns-then-n-eq256
 returns-then-n-eq256 c = search (making-many, c.loop-i.invariant)
