@@ -2,10 +2,11 @@
 use mathlib.Core.Path.{◌≡◌, refl, sym, ap, ◌∙◌}
 use mathlib.Core.Option.{Option, none, some}
 use mathlib.Core.List.{List, [], ◌++◌, append-nil}
-use Prim.Native.Nat.{ℕ, ◌+◌, ◌*◌, ◌<◌, ◌≤◌}
+use Prim.Native.Nat.{ℕ, ◌+◌, ◌<◌, ◌≤◌}
 use native.Mathlib.Nat.{add-zero, zero-add}
 use native.Mathlib.Omega.{arith}
-use lib.ListN.{length, drop}
+use lib.ListN.{length, take, drop}
+use Rattle.std.proofs.lemmas.List.{length-take-le}
 use Rattle.trees.specs.Tree.{Trees, firsts, records_all, trees_of}
 use Rattle.records.specs.Slots.{slots, recs}
 use Rattle.forms.specs.Lists.{first_is, kinds_all, macro_arg, first_macro_arg}
@@ -26,6 +27,7 @@ use Rattle.grounds.proofs.At.{length-recs}
 use Rattle.std.specs.Prelude.{Ok, Err}
 use Rattle.records.specs.declared.Ground.TheVariants.{MacroArg, TooDeep}
 use Rattle.judging.specs.declared.Flaw.{Flaw}
+use Rattle.judging.specs.declared.table.Entry.{Entry}
 use Rattle.judging.specs.Table.{Table}
 use Rattle.judging.specs.Judging.{flaw, Judged, given, Low, Answers, moved, Known, known_all, its_flaw, Scanned, turns, ListJudged}
 use Rattle.judging.specs.Whole.{DefinitionsShaped, PatternShaped, Tabled, OthersJudged, FoundIn, both, Grounded}
@@ -95,7 +97,7 @@ module _ (src : List ℕ) (d n a : ℕ) (s : n ≡ slots src) (placed : All Plac
 
 -- ---- 33, and the extractors
 
-module _ (text defs t : List ℕ) where
+module _ (text defs : List ℕ) (t : List Entry) where
   abbrev many : Option Refusal
   many = found (too_many (extractor_places 0 (trees_of (recs defs))))
 
@@ -104,25 +106,29 @@ module _ (text defs t : List ℕ) where
 
   pub others-many : (f : Flaw) → Tabled defs t (Err f) → OthersJudged text defs t (Err f)
   unfolding of_definitions verdict
-  others-many f q = record { answers = first-answers many all-turns (slots defs) f q.answers; table = λ n d. absurd (flawed_fine f n d) }
+  others-many f q = record { answers = first-answers many all-turns (slots defs) f q.answers; within = λ n d. absurd (flawed_fine f n d); table = λ n d. absurd (flawed_fine f n d) }
 
-  pub table_is : (n : ℕ) → Tabled defs t (Ok n) → Table text defs t n
-  table_is n q = q.table n refl text
+  pub table-within : (n : ℕ) → Tabled defs t (Ok n) → n ≤ length t
+  table-within n q = q.within n refl
+
+  pub table_is : (n : ℕ) (u : List ℕ) (rows : List Entry) → u ≡ text → rows ≡ take n t → Tabled defs t (Ok n) → Table u defs rows
+  table_is n u rows e f q = rw (e, f) (q.table n refl text)
 
   module _ (n : ℕ) (q : Tabled defs t (Ok n)) where
-    pub others_flawed : (f : Flaw) → ListJudged text defs (Err f) → OthersJudged text defs t (Err f)
+    pub others_flawed : (u : List ℕ) → u ≡ text → (f : Flaw) → ListJudged u defs (Err f) → OthersJudged text defs t (Err f)
     unfolding of_definitions verdict
-    others_flawed f l = record { answers = next-answers many all-turns (slots defs) n (Err f) q.answers l; table = λ m c. absurd (flawed_fine f m c) }
+    others_flawed u e f l = record { answers = next-answers many all-turns (slots defs) n (Err f) q.answers (rw e at l); within = λ m c. absurd (flawed_fine f m c); table = λ m c. absurd (flawed_fine f m c) }
 
-    pub others-fine : (m : ℕ) → ListJudged text defs (Ok m) → OthersJudged text defs t (Ok n)
+    pub others-fine : (u : List ℕ) → u ≡ text → (m : ℕ) → ListJudged u defs (Ok m) → OthersJudged text defs t (Ok n)
     unfolding of_definitions verdict Low
-    others-fine m l =
+    others-fine u e m l =
         record {
-          answers = next-answers many all-turns (slots defs) n (Ok n) q.answers (record { gives = sym (answers-none all-turns (slots defs) m l); low = tt });
-          table = λ k c. let same : n ≡ k = cc in rw (← same) (table_is n q);
+          answers = next-answers many all-turns (slots defs) n (Ok n) q.answers (record { gives = sym (answers-none all-turns (slots defs) m (rw e at l)); low = tt });
+          within = λ k c. let same : n ≡ k = cc in rw (← same) (q.within n refl);
+          table = λ k c. let same : n ≡ k = cc in rw (← same) (q.table n refl text);
         }
 
-pub found_all : (text defs t : List ℕ) (a b c : Judged) → Answers (found (macro_args (trees_of (recs defs)) 0)) (0 + slots defs) a → Answers (found (too_deeps (trees_of (recs defs)) 0)) (0 + slots defs) b → OthersJudged text defs t c
+pub found_all : (text defs : List ℕ) (t : List Entry) (a b c : Judged) → Answers (found (macro_args (trees_of (recs defs)) 0)) (0 + slots defs) a → Answers (found (too_deeps (trees_of (recs defs)) 0)) (0 + slots defs) b → OthersJudged text defs t c
     → FoundIn text defs t (record { args = a; deep = b; others = c })
 found_all text defs t a b c p q r = record { args = rw (zero-add (slots defs)) at p; deep = rw (zero-add (slots defs)) at q; others = r }
 
@@ -178,12 +184,12 @@ unfolding Low
 moved_under (Ok x) m d p l = tt
 moved_under (Err f) m d p l = omega arith
 
-pub scanned_low : (text t : List ℕ) (n earlier : ℕ) (src : List ℕ) (at trees : ℕ) (j : Judged) → slots src ≤ 65536 → Scanned (its_flaw text t n earlier) src at trees j → Low 65536 j
-scanned_low text t n earlier src at trees j h c = low_by (slots src) 65536 j h c.low
+pub scanned_low : (text : List ℕ) (t : List Entry) (earlier : ℕ) (src : List ℕ) (at trees : ℕ) (j : Judged) → slots src ≤ 65536 → Scanned (its_flaw text t earlier) src at trees j → Low 65536 j
+scanned_low text t earlier src at trees j h c = low_by (slots src) 65536 j h c.low
 
 -- ---- the pattern after the definitions
 
-module _ (text defs pattern t : List ℕ) (d : DefinitionsShaped defs) (s : PatternShaped pattern) where
+module _ (text defs pattern : List ℕ) (t : List Entry) (d : DefinitionsShaped defs) (s : PatternShaped pattern) where
   abbrev D : Extractors
   D = extractors text (trees_of (recs defs))
 
@@ -210,7 +216,7 @@ module _ (text defs pattern t : List ℕ) (d : DefinitionsShaped defs) (s : Patt
       ∙ rw (both_is, pattern-is)
 
   pub by_both : (f : Flaw) → Answers (both defs pattern) (slots defs + slots pattern) (Err f) → Grounded text defs pattern t (Err f)
-  by_both f q = record { answers = rw order_is (first-answers _ _ _ f q); table = λ n c. absurd (flawed_fine f n c) }
+  by_both f q = record { answers = rw order_is (first-answers _ _ _ f q); within = λ n c. absurd (flawed_fine f n c); table = λ n c. absurd (flawed_fine f n c) }
 
   module _ (m : ℕ) (l : Answers (both defs pattern) (slots defs + slots pattern) (Ok m)) where
     pub by_others : (o : Judged) (f : Flaw) → o ≡ Err f → OthersJudged text defs t o → Grounded text defs pattern t (Err f)
@@ -218,6 +224,7 @@ module _ (text defs pattern t : List ℕ) (d : DefinitionsShaped defs) (s : Patt
         let q : OthersJudged text defs t (Err f) = rw w at q' in
         record {
           answers = rw order_is (next-answers _ _ _ m (Err f) l (first-answers _ _ _ f (wider _ (slots defs) (slots defs + slots pattern) (Err f) (omega arith) q.answers)));
+          within = λ n c. absurd (flawed_fine f n c);
           table = λ n c. absurd (flawed_fine f n c);
         }
 
@@ -225,11 +232,20 @@ module _ (text defs pattern t : List ℕ) (d : DefinitionsShaped defs) (s : Patt
       q : OthersJudged text defs t (Ok n)
       q = rw w at q'
 
-      table : Table text defs t n
+      pub others_within : n ≤ length t
+      others_within = q.within n refl
+
+      abbrev rows : List Entry
+      rows = take n t
+
+      table : Table text defs rows
       table = q.table n refl
 
-      known : Known text t n n
-      known = table_known text defs t n n D [] d.placed table (sym (append-nil D)) table.size
+      rows_are : length rows ≡ n
+      rows_are = length-take-le n t (q.within n refl)
+
+      known : Known text rows n
+      known = table_known text defs rows n D [] d.placed table (sym (append-nil D)) (table.size ∙ rows_are)
 
       calls_are : marks_all (call_flaw text (known_all known) known.first) (firsts 1 (trees_of (drop 0 (recs pattern)))) ≡ marks_all (call_flaw text D D) (trees_of (recs pattern))
       unfolding firsts known table_known
@@ -237,16 +253,18 @@ module _ (text defs pattern t : List ℕ) (d : DefinitionsShaped defs) (s : Patt
           ap (λ (F : Extractors). marks_all (call_flaw text F D) (firsts 1 (trees_of (drop 0 (recs pattern))))) (append-nil D)
           ∙ ap (marks_all (call_flaw text D D)) (ap (firsts 1) s.one ∙ sym s.one)
 
-      pub by_pattern : (j r : Judged) (c : ℕ) → c ≡ slots defs → r ≡ moved j n c → Scanned (its_flaw text t n n) pattern 0 1 j → Grounded text defs pattern t r
-      by_pattern j r c v z x =
+      pub by_pattern : (j r : Judged) (c : ℕ) (u : List ℕ) (rs : List Entry) → u ≡ text → rs ≡ take n t → c ≡ slots defs → r ≡ moved j n c → Scanned (its_flaw u rs n) pattern 0 1 j → Grounded text defs pattern t r
+      by_pattern j r c u rs a b v z x' =
+          let x : Scanned (its_flaw text rows n) pattern 0 1 j = rw (a, b) at x' in
           rw (z, v) (record {
             answers = rw order_is (next-answers _ _ _ m (moved j n (slots defs)) l (next-answers _ _ _ n (moved j n (slots defs)) (wider _ (slots defs) (slots defs + slots pattern) (Ok n) (omega arith) q.answers)
                 (record {
                   gives = moved-given j n (slots defs) ∙ ap (shifted (slots defs)) (x.gives known ∙ ap (first_from 0) calls_are) ∙ sym (ap (λ (k : ℕ). first_from k (marks_all (call_flaw text D D) (trees_of (recs pattern)))) (sym (add-zero (slots defs))) ∙ flaw_shifted (slots defs) 0 (marks_all (call_flaw text D D) (trees_of (recs pattern))));
                   low = moved_under j n (slots defs) (slots pattern) x.low;
                 })));
+            within = λ k y. rw (moved-counts j n (slots defs) k y) others_within;
             table = λ k y. rw (moved-counts j n (slots defs) k y) table;
           })
 
-      pub rows-there : 3 * n ≤ length t
-      rows-there = omega (arith, table.few, table.long)
+      pub rows-there : (rs : List Entry) → rs ≡ take n t → n ≤ length rs
+      rows-there rs e = rw e (omega (arith, rows_are))

@@ -12,6 +12,7 @@ use Rattle.expansion.specs.Flat.{span, end_of, Placed, All}
 use Rattle.grounds.specs.Stages.{Refusal, refusal, first_from, Stage, found, verdict, in_turn, marks_all}
 use Rattle.grounds.specs.Order.{call_flaw, Site, stages_of, sites}
 use Rattle.judging.specs.declared.Flaw.{Flaw}
+use Rattle.judging.specs.declared.table.Entry.{Entry}
 use Rattle.judging.specs.Table.{arity_in, RowsOf}
 
 -- ---- the number and the place that document 01 gives to each answer; none where nothing is wrong
@@ -50,18 +51,18 @@ moved (Err e) n d = Err (flaw e.reason (d + e.place))
 -- ---- the extractors of the table
 
 -- the rows from x on have the extractors' names and numbers of parameters
-abbrev pub NamedRows : List ℕ → List ℕ → ℕ → Extractors → Type 0
+abbrev pub NamedRows : List ℕ → List Entry → ℕ → Extractors → Type 0
 NamedRows text t x E = RowsOf (λ y v. count v.params ≡ arity_in t y) text t x E
 
--- the n extractors of the table, the first of which are the earlier ones
-pub record Known (text t : List ℕ) (n earlier : ℕ) : Type 0 where
+-- the extractors of the table, the first of which are the earlier ones
+pub record Known (text : List ℕ) (t : List Entry) (earlier : ℕ) : Type 0 where
   pub first : Extractors
   pub others : Extractors
   pub rows : NamedRows text t 0 (first ++ others)
   pub sized : length first ≡ earlier
-  pub all : length first + length others ≡ n
+  pub all : length first + length others ≡ length t
 
-abbrev pub known_all : {text t : List ℕ} {n earlier : ℕ} → Known text t n earlier → Extractors
+abbrev pub known_all : {text : List ℕ} {t : List Entry} {earlier : ℕ} → Known text t earlier → Extractors
 known_all x = x.first ++ x.others
 
 -- ---- a scan, by a number f of each node, whatever x of A is
@@ -80,13 +81,14 @@ pub record Scanned {A : Type 0} (f : A → Head → Trees → ℕ) (src : List �
   pub low : Low (slots src) r
   pub ends : (m : ℕ) → r ≡ Ok m → m ≡ at + span (drop at (recs src)) trees
 
--- calls, 31 and 32, by whatever the n extractors of the table are
-abbrev pub its_flaw : (text t : List ℕ) (n earlier : ℕ) → Known text t n earlier → Head → Trees → ℕ
-its_flaw text t n earlier x = call_flaw text (known_all x) x.first
+-- calls, 31 and 32, by whatever the extractors of the table are
+abbrev pub its_flaw : (text : List ℕ) (t : List Entry) (earlier : ℕ) → Known text t earlier → Head → Trees → ℕ
+its_flaw text t earlier x = call_flaw text (known_all x) x.first
 
--- a call with c children whose name is looked up to the number x: 31, 32 or 0
-unfoldable pub by_number : List ℕ → ℕ → ℕ → ℕ → ℕ → ℕ
-by_number t n earlier x c = pick (ltb x earlier) (pick (eqb (arity_in t x) (c - 1)) 0 31) (pick (eqb x n) 0 32)
+-- a call with c children by the row that its name is looked up to: 31, 32 or 0
+unfoldable pub by_number : List Entry → ℕ → Maybe ℕ → ℕ → ℕ
+by_number t earlier None c = 0
+by_number t earlier (Some x) c = pick (ltb x earlier) (pick (eqb (arity_in t x) (c - 1)) 0 31) 32
 
 -- ---- an Extractor
 
@@ -103,13 +105,13 @@ abbrev pub site_at : List ℕ → ℕ → Extractors → Site
 site_at defs i E = record { place = i; children = children_at defs i; earlier = E }
 
 -- one of its stages
-pub record StageJudged (S : Extractors → Site → Stage) (text t : List ℕ) (n earlier : ℕ) (defs : List ℕ) (i : ℕ) (r : Judged) : Type 0 where
-  pub gives : (x : Known text t n earlier) → given r ≡ found (S (known_all x) (site_at defs i x.first))
+pub record StageJudged (S : Extractors → Site → Stage) (text : List ℕ) (t : List Entry) (earlier : ℕ) (defs : List ℕ) (i : ℕ) (r : Judged) : Type 0 where
+  pub gives : (x : Known text t earlier) → given r ≡ found (S (known_all x) (site_at defs i x.first))
   pub low : Low (slots defs) r
 
 -- all its stages; a fine answer is where its tree ends
-pub record ExtractorJudged (text t : List ℕ) (n earlier : ℕ) (defs : List ℕ) (i : ℕ) (r : Judged) : Type 0 where
-  pub gives : (x : Known text t n earlier) → given r ≡ verdict (stages_of text (known_all x) (site_at defs i x.first))
+pub record ExtractorJudged (text : List ℕ) (t : List Entry) (earlier : ℕ) (defs : List ℕ) (i : ℕ) (r : Judged) : Type 0 where
+  pub gives : (x : Known text t earlier) → given r ≡ verdict (stages_of text (known_all x) (site_at defs i x.first))
   pub low : Low (slots defs) r
   pub ends : (m : ℕ) → r ≡ Ok m → m ≡ end_of (recs defs) i
 

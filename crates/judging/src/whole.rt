@@ -11,7 +11,7 @@ ghost use Rattle.judging.specs.Whole.{DefinitionsShaped, PatternShaped, OthersJu
 use crate::Flaw;
 use crate::calls::judge_calls;
 use crate::extractors::judge_definitions;
-use crate::table::make_table;
+use crate::table::{Entry, Extractors, MOST, make_table};
 use forms::depth::first_deep;
 use forms::scans::first_macro_arg;
 use records::{Ground, slots};
@@ -57,18 +57,18 @@ fn judge_deep(src: &[u8], d: usize) -> Result<usize, Flaw>
 }
 
 // 33, then the extractors: their number, which the table then holds, or the refusal.
-fn judge_others(text: &[u8], defs: &[u8], table: &mut [u64]) -> Result<usize, Flaw>
-    requires { DefinitionsShaped defs.now × (768 ≤ length table.old) }
+fn judge_others(text: &[u8], defs: &[u8], table: &mut [Entry]) -> Result<usize, Flaw>
+    requires { DefinitionsShaped defs.now × (MOST ≤ length table.old) }
     ensures { OthersJudged text.now defs.now table.new result }
 {
     let n = make_table(defs, table)?;
-    judge_definitions(text, table, n, defs)?;
+    judge_definitions(&Extractors::first_of(text, table, n), defs)?;
     Ok(n)
 }
 
 // The definitions, once.
-pub fn judge_once(text: &[u8], defs: &[u8], table: &mut [u64]) -> Findings
-    requires { DefinitionsShaped defs.now × (768 ≤ length table.old) }
+pub fn judge_once(text: &[u8], defs: &[u8], table: &mut [Entry]) -> Findings
+    requires { DefinitionsShaped defs.now × (MOST ≤ length table.old) }
     ensures { FoundIn text.now defs.now table.new result }
 {
     let args = judge_args(defs, 0);
@@ -115,7 +115,7 @@ fn after_list(j: Result<usize, Flaw>, n: usize, d: usize) -> Result<usize, Flaw>
 pub fn judge_pattern(
     text: &[u8],
     defs: &[u8],
-    table: &[u64],
+    table: &[Entry],
     f: Findings,
     pattern: &[u8],
 ) -> Result<usize, Flaw>
@@ -124,6 +124,7 @@ pub fn judge_pattern(
 {
     judge_both(defs, pattern, f.args, f.deep)?;
     let n = f.others?;
-    let c = judge_calls(text, table, n, n, pattern, 0, 1);
+    let known = Extractors::first_of(text, table, n);
+    let c = judge_calls(&known, n, pattern, 0, 1);
     after_list(c, n, slots(defs))
 }

@@ -1,6 +1,5 @@
 -- What opening answers, as a number and as bytes of its outputs.
-use Rattle.std.specs.Prelude.{Result, Ok, Err, List, ℕ, ◌<◌, ltb}
-use Rattle.trees.specs.Choice.{pick}
+use Rattle.std.specs.Prelude.{Result, Ok, Err, List, ℕ, ◌<◌, min}
 use Rattle.records.specs.Slots.{slots, writes}
 use Rattle.records.specs.Result.{accepted, refused}
 use Rattle.records.specs.Grounds.{number}
@@ -49,7 +48,7 @@ outputs store output = record { store = store; output = output }
 
 -- 'Lists hold at most 65,536 records, so space is the whole records lent or that, the smaller'
 unfoldable pub space_of : List ℕ → ℕ
-space_of l = pick (ltb (slots l) 65536) (slots l) 65536
+space_of l = min (slots l) 65536
 
 unfoldable pub space_in : Outputs → Counts
 space_in b = counts (space_of b.store) (space_of b.output)

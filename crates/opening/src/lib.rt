@@ -6,3 +6,10 @@ pub mod made;
 pub mod store;
 pub mod walk;
 pub mod whole;
+
+// Which of the two outputs is written.
+#[derive(Clone, Copy, Debug, PartialEq, Eq)]
+pub enum Side {
+    Store,
+    Output,
+}

@@ -5,7 +5,9 @@ use borrow.Author.Rules.{rules}
 use Rattle.judging.proofs.whole.judge_pattern.Goals as goal
 
 pub returns-in_err-judge_both : goal.returns-in_err-judge_both
-returns-in_err-judge_both c = search (rules, by_both)
+returns-in_err-judge_both c =
+    let p = err_from_is_err_and c.from_residual.result c.from_residual.ensures.1 in
+    rw (p.1, p.2) (search (by_both, c.in_err-judge_both.ensures))
 
 pub returns-in_err-n : goal.returns-in_err-n
 returns-in_err-n c =
