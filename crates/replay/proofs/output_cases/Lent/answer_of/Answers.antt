@@ -1,6 +1,6 @@
 use Rattle.replay.proofs.AgreedLaws.{said_read, said-text, said_make, said-fill}
 use Rattle.std.proofs.Common.{rules}
-use Rattle.replay.proofs.output_cases.answer_of.Goals as goal
+use Rattle.replay.proofs.output_cases.Lent.answer_of.Goals as goal
 
 pub returns-in-Read : goal.returns-in-Read
 returns-in-Read c = search (said_read, rules)
