@@ -4,7 +4,9 @@ use mathlib.Core.Option.{Option, none, some}
 use mathlib.Core.List.{List, [], ◌++◌, append-nil}
 use Prim.Native.Nat.{ℕ, ◌+◌, ◌<◌, ◌≤◌}
 use native.Mathlib.Nat.{add-zero, zero-add}
+use native.Mathlib.Decide.{dec_lt}
 use native.Mathlib.Omega.{arith}
+use borrow.Author.Tests.{lt-ltb, le-ltb}
 use lib.ListN.{length, take, drop}
 use Rattle.std.proofs.lemmas.List.{length-take-le}
 use Rattle.trees.specs.Tree.{Trees, firsts, records_all, trees_of}
@@ -29,7 +31,7 @@ use Rattle.records.specs.declared.Ground.TheVariants.{MacroArg, TooDeep}
 use Rattle.judging.specs.declared.Flaw.{Flaw}
 use Rattle.judging.specs.declared.table.Entry.{Entry}
 use Rattle.judging.specs.Table.{Table}
-use Rattle.judging.specs.Judging.{flaw, Judged, given, Low, Answers, moved, Known, known_all, its_flaw, Scanned, turns, ListJudged}
+use Rattle.judging.specs.Judging.{flaw, Judged, given, Low, Answers, judged_at, moved, Known, known_all, its_flaw, Scanned, turns, ListJudged}
 use Rattle.judging.specs.Whole.{DefinitionsShaped, PatternShaped, Tabled, OthersJudged, FoundIn, both, Grounded}
 use Rattle.judging.proofs.GivenLaws.{flawed_first, fine-next, flawed_fine}
 use Rattle.judging.proofs.RowLaws.{table_known}
@@ -75,25 +77,39 @@ module _ (src : List ℕ) (d n a : ℕ) (s : n ≡ slots src) (placed : All Plac
     first_arg : first_is macro_arg (kinds_all ts) ≡ a
     first_arg = sym (is ∙ macro_arg_agrees ts (recs src) (list-records (recs src) placed))
 
-    pub args-there : a < n → Answers (found (macro_args ts d)) (d + slots src) (Err (flaw MacroArg (d + a)))
+    args-there : a < n → Answers (found (macro_args ts d)) (d + slots src) (Err (flaw MacroArg (d + a)))
     unfolding Low
     args-there h = record { gives = sym (listed-there 4 macro_arg (omega arith) (kinds_all ts) d a first_arg (omega (arith, length-kinds_all ts, size src placed))); low = omega arith }
 
-    pub args_nowhere : n ≤ a → (m : ℕ) → Answers (found (macro_args ts d)) (d + slots src) (Ok m)
+    args_nowhere : n ≤ a → (m : ℕ) → Answers (found (macro_args ts d)) (d + slots src) (Ok m)
     unfolding Low
     args_nowhere h m = record { gives = sym (listed_nowhere 4 macro_arg (omega arith) (kinds_all ts) d a first_arg (omega (arith, length-kinds_all ts, size src placed))); low = tt }
+
+    pub args_judged : (r : Judged) → r ≡ judged_at n a MacroArg d → Answers (found (macro_args ts d)) (d + slots src) r
+    args_judged r e = rw e (go (dec_lt a n))
+      where
+        go : Dec (a < n) → Answers (found (macro_args ts d)) (d + slots src) (judged_at n a MacroArg d)
+        go (yes h) = rw (lt-ltb a n h) (args-there h)
+        go (no h) = rw (le-ltb a n (omega arith)) (args_nowhere (omega arith) 0)
 
   module _ (is : a ≡ first_deep_in (recs src)) where
     first-deep : first_is too_deep (depths_all 0 ts) ≡ a
     first-deep = sym (is ∙ deep_agrees ts (recs src) (list-records (recs src) placed))
 
-    pub deep-there : a < n → Answers (found (too_deeps ts d)) (d + slots src) (Err (flaw TooDeep (d + a)))
+    deep-there : a < n → Answers (found (too_deeps ts d)) (d + slots src) (Err (flaw TooDeep (d + a)))
     unfolding Low
     deep-there h = record { gives = sym (listed-there 8 too_deep (omega arith) (depths_all 0 ts) d a first-deep (omega (arith, length-depths_all ts 0, size src placed))); low = omega arith }
 
-    pub deep_nowhere : n ≤ a → (m : ℕ) → Answers (found (too_deeps ts d)) (d + slots src) (Ok m)
+    deep_nowhere : n ≤ a → (m : ℕ) → Answers (found (too_deeps ts d)) (d + slots src) (Ok m)
     unfolding Low
     deep_nowhere h m = record { gives = sym (listed_nowhere 8 too_deep (omega arith) (depths_all 0 ts) d a first-deep (omega (arith, length-depths_all ts 0, size src placed))); low = tt }
+
+    pub deep_judged : (r : Judged) → r ≡ judged_at n a TooDeep d → Answers (found (too_deeps ts d)) (d + slots src) r
+    deep_judged r e = rw e (go (dec_lt a n))
+      where
+        go : Dec (a < n) → Answers (found (too_deeps ts d)) (d + slots src) (judged_at n a TooDeep d)
+        go (yes h) = rw (lt-ltb a n h) (deep-there h)
+        go (no h) = rw (le-ltb a n (omega arith)) (deep_nowhere (omega arith) 0)
 
 -- ---- 33, and the extractors
 

@@ -43,6 +43,10 @@ pub record Answers (g : Option Refusal) (m : ℕ) (r : Judged) : Type 0 where
   pub gives : given r ≡ g
   pub low : Low m r
 
+-- the answer by the index a of what is wrong among n records, the first of which has the place d
+abbrev pub judged_at : ℕ → ℕ → Ground → ℕ → Judged
+judged_at n a g d = pick (ltb a n) (Err (flaw g (d + a))) (Ok 0)
+
 -- an answer whose place goes on after d records, with n for a fine one
 abbrev pub moved : Judged → ℕ → ℕ → Judged
 moved (Ok m) n d = Ok n
@@ -64,6 +68,11 @@ pub record Known (text : List ℕ) (t : List Entry) (earlier : ℕ) : Type 0 whe
 
 abbrev pub known_all : {text : List ℕ} {t : List Entry} {earlier : ℕ} → Known text t earlier → Extractors
 known_all x = x.first ++ x.others
+
+-- a list within the limits, each of whose records has its children
+pub record Sound (src : List ℕ) : Type 0 where
+  pub few : slots src ≤ 65536
+  pub placed : All Placed (recs src)
 
 -- ---- a scan, by a number f of each node, whatever x of A is
 

@@ -2,9 +2,8 @@
 ghost use Rattle.std.specs.Prelude.{◌≡◌, ◌≤◌, ◌<◌, length, drop};
 ghost use Rattle.trees.specs.Tree.{count, trees_of};
 ghost use Rattle.records.specs.Slots.{slots, recs};
-ghost use Rattle.expansion.specs.Flat.{All, Placed};
 ghost use Rattle.judging.specs.Table.{looked};
-ghost use Rattle.judging.specs.Judging.{mark_of, by_number, MarkedAt, Scanned, its_flaw};
+ghost use Rattle.judging.specs.Judging.{Sound, mark_of, by_number, MarkedAt, Scanned, its_flaw};
 
 use crate::Flaw;
 use crate::table::{Entry, Extractors};
@@ -30,7 +29,7 @@ fn judge_number(rows: &[Entry], earlier: usize, found: Option<usize>, count: u16
 fn judge_call(known: &Extractors, earlier: usize, src: &[u8], k: usize) -> Option<Ground>
     requires some_earlier { earlier ≤ length known.now.rows.now }
     requires inside { k < slots src.now }
-    requires placed { All Placed (recs src.now) }
+    requires sound { Sound src.now }
     ensures { MarkedAt (its_flaw known.now.text.now known.now.rows.now earlier) src.now k (mark_of result) }
 {
     let r = rec_at(src, k);
@@ -50,8 +49,7 @@ pub fn judge_calls(
     trees: usize,
 ) -> Result<usize, Flaw>
     requires some_earlier { earlier ≤ length known.now.rows.now }
-    requires few { slots src.now ≤ 65536 }
-    requires placed { All Placed (recs src.now) }
+    requires sound { Sound src.now }
     requires trees_there { trees ≤ count (trees_of (drop at (recs src.now))) }
     ensures { Scanned (its_flaw known.now.text.now known.now.rows.now earlier) src.now at trees result }
 {

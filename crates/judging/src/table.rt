@@ -71,7 +71,8 @@ fn entry_at(defs: &[u8], i: usize) -> Entry
 
 // Fills the table with the extractors of a definition list: their number, or 33 at the 257th.
 pub fn make_table(defs: &[u8], table: &mut [Entry]) -> Result<usize, Flaw>
-    requires { DefinitionsShaped defs.now × (MOST ≤ length table.old) }
+    requires definitions { DefinitionsShaped defs.now }
+    requires room { MOST ≤ length table.old }
     ensures { Tabled defs.now table.new result }
 {
     let end = slots(defs);

@@ -2,10 +2,9 @@
 ghost use Rattle.std.specs.Prelude.{◌≡◌, ◌+◌, ◌≤◌, length};
 ghost use Rattle.trees.specs.Tree.{trees_of};
 ghost use Rattle.records.specs.Slots.{slots, recs};
-ghost use Rattle.expansion.specs.Flat.{All, Placed};
 ghost use Rattle.grounds.specs.Stages.{found};
 ghost use Rattle.grounds.specs.Order.{macro_args, too_deeps};
-ghost use Rattle.judging.specs.Judging.{Answers, Low, moved};
+ghost use Rattle.judging.specs.Judging.{Sound, judged_at, Answers, Low, moved};
 ghost use Rattle.judging.specs.Whole.{DefinitionsShaped, PatternShaped, OthersJudged, FoundIn, both, Grounded};
 
 use crate::Flaw;
@@ -24,41 +23,43 @@ pub struct Findings {
     pub others: Result<usize, Flaw>,
 }
 
+// What is wrong at the index a of n records, the first of which has the place d; nothing, where the index is none of theirs.
+fn judge_index(n: usize, a: usize, reason: Ground, d: usize) -> Result<usize, Flaw>
+    requires few { n ≤ 65536 }
+    requires place_small { d ≤ 65536 }
+    ensures { result ≡ judged_at n a reason d }
+{
+    if a >= n {
+        return Ok(0);
+    }
+    Err(Flaw {
+        reason,
+        place: d + a,
+    })
+}
+
 // 4: the first MacroArg of a list whose first record has the place d.
 fn judge_args(src: &[u8], d: usize) -> Result<usize, Flaw>
-    requires { (slots src.now ≤ 65536) × (d ≤ 65536) × All Placed (recs src.now) }
+    requires sound { Sound src.now }
+    requires place_small { d ≤ 65536 }
     ensures { Answers (found (macro_args (trees_of (recs src.now)) d)) (d + slots src.now) result }
 {
-    let n = slots(src);
-    let a = first_macro_arg(src);
-    if a < n {
-        return Err(Flaw {
-            reason: Ground::MacroArg,
-            place: d + a,
-        });
-    }
-    Ok(0)
+    judge_index(slots(src), first_macro_arg(src), Ground::MacroArg, d)
 }
 
 // 8: the first pattern or expression at depth 65.
 fn judge_deep(src: &[u8], d: usize) -> Result<usize, Flaw>
-    requires { (slots src.now ≤ 65536) × (d ≤ 65536) × All Placed (recs src.now) }
+    requires sound { Sound src.now }
+    requires place_small { d ≤ 65536 }
     ensures { Answers (found (too_deeps (trees_of (recs src.now)) d)) (d + slots src.now) result }
 {
-    let n = slots(src);
-    let a = first_deep(src);
-    if a < n {
-        return Err(Flaw {
-            reason: Ground::TooDeep,
-            place: d + a,
-        });
-    }
-    Ok(0)
+    judge_index(slots(src), first_deep(src), Ground::TooDeep, d)
 }
 
 // 33, then the extractors: their number, which the table then holds, or the refusal.
 fn judge_others(text: &[u8], defs: &[u8], table: &mut [Entry]) -> Result<usize, Flaw>
-    requires { DefinitionsShaped defs.now × (MOST ≤ length table.old) }
+    requires definitions { DefinitionsShaped defs.now }
+    requires room { MOST ≤ length table.old }
     ensures { OthersJudged text.now defs.now table.new result }
 {
     let n = make_table(defs, table)?;
@@ -68,7 +69,8 @@ fn judge_others(text: &[u8], defs: &[u8], table: &mut [Entry]) -> Result<usize, 
 
 // The definitions, once.
 pub fn judge_once(text: &[u8], defs: &[u8], table: &mut [Entry]) -> Findings
-    requires { DefinitionsShaped defs.now × (MOST ≤ length table.old) }
+    requires definitions { DefinitionsShaped defs.now }
+    requires room { MOST ≤ length table.old }
     ensures { FoundIn text.now defs.now table.new result }
 {
     let args = judge_args(defs, 0);
@@ -88,7 +90,10 @@ fn judge_both(
     args: Result<usize, Flaw>,
     deep: Result<usize, Flaw>,
 ) -> Result<usize, Flaw>
-    requires { DefinitionsShaped defs.now × PatternShaped pattern.now × Answers (found (macro_args (trees_of (recs defs.now)) 0)) (slots defs.now) args × Answers (found (too_deeps (trees_of (recs defs.now)) 0)) (slots defs.now) deep }
+    requires definitions { DefinitionsShaped defs.now }
+    requires one_pattern { PatternShaped pattern.now }
+    requires args_answer { Answers (found (macro_args (trees_of (recs defs.now)) 0)) (slots defs.now) args }
+    requires deep_answer { Answers (found (too_deeps (trees_of (recs defs.now)) 0)) (slots defs.now) deep }
     ensures { Answers (both defs.now pattern.now) (slots defs.now + slots pattern.now) result }
 {
     args?;
@@ -99,7 +104,8 @@ fn judge_both(
 
 // An answer whose place goes on after d records.
 fn after_list(j: Result<usize, Flaw>, n: usize, d: usize) -> Result<usize, Flaw>
-    requires { (d ≤ 65536) × Low 65536 j }
+    requires place_small { d ≤ 65536 }
+    requires low { Low 65536 j }
     ensures { result ≡ moved j n d }
 {
     match j {
@@ -119,7 +125,9 @@ pub fn judge_pattern(
     f: Findings,
     pattern: &[u8],
 ) -> Result<usize, Flaw>
-    requires { DefinitionsShaped defs.now × PatternShaped pattern.now × FoundIn text.now defs.now table.now f }
+    requires definitions { DefinitionsShaped defs.now }
+    requires one_pattern { PatternShaped pattern.now }
+    requires found { FoundIn text.now defs.now table.now f }
     ensures { Grounded text.now defs.now pattern.now table.now result }
 {
     judge_both(defs, pattern, f.args, f.deep)?;
