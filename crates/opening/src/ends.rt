@@ -1,7 +1,7 @@
 // A table of the ends of trees, filled once for a source, so that a tree is passed in one step.
 ghost use Rattle.std.specs.Prelude.{◌≡◌, ◌≤◌, ◌<◌, length, get_or};
 ghost use Rattle.records.specs.Slots.{slots, recs};
-ghost use Rattle.expansion.specs.Flat.{Placed, All};
+ghost use Rattle.judging.specs.Judging.{Sound};
 ghost use Rattle.opening.specs.Ends.{EndsFrom, Hop, Childed, Child, behind};
 
 use records::{rec_at, slots};
@@ -58,8 +58,7 @@ impl Forest<'_> {
 
 // Fills the table, from the last record back: each tree ends where its last child does.
 pub fn fill_ends(src: &[u8], ends: &mut [u32])
-    requires placed { All Placed (recs src.now) }
-    requires few { slots src.now ≤ 65536 }
+    requires sound { Sound src.now }
     requires long_enough { slots src.now ≤ length ends.old }
     ensures { EndsFrom (recs src.now) ends.new 0 }
 {

@@ -67,7 +67,10 @@ fn open_by(
     store: &mut [u8],
     out: &mut [u8],
 ) -> u64
-    requires { DefinitionsShaped defs.now × PatternShaped pattern.now × (slots defs.now ≤ length ends.old) × (slots pattern.now ≤ length ends.old) }
+    requires definitions { DefinitionsShaped defs.now }
+    requires one_pattern { PatternShaped pattern.now }
+    requires defs_fit { slots defs.now ≤ length ends.old }
+    requires pattern_fits { slots pattern.now ≤ length ends.old }
     ensures { Left (opening text.now (trees_of (recs defs.now)) (tree_of (recs pattern.now)) (space_in (outputs store.old out.old))) (outputs store.old out.old) (outputs store.new out.new) result }
 {
     let a = open_into(text, defs, pattern, ends, store, out);
@@ -83,7 +86,11 @@ fn open_upto<const N: usize>(
     store: &mut [u8],
     out: &mut [u8],
 ) -> u64
-    requires { DefinitionsShaped defs.now × PatternShaped pattern.now × (slots defs.now ≤ N) × (slots pattern.now ≤ N) × (N ≤ 65536) }
+    requires definitions { DefinitionsShaped defs.now }
+    requires one_pattern { PatternShaped pattern.now }
+    requires defs_fit { slots defs.now ≤ N }
+    requires pattern_fits { slots pattern.now ≤ N }
+    requires on_the_stack { N ≤ 65536 }
     ensures { Left (opening text.now (trees_of (recs defs.now)) (tree_of (recs pattern.now)) (space_in (outputs store.old out.old))) (outputs store.old out.old) (outputs store.new out.new) result }
 {
     let mut ends = [0u32; N];
@@ -92,7 +99,8 @@ fn open_upto<const N: usize>(
 
 // Definitions and a pattern that are of their kind. A small table is filled with zeros in less time than a large one.
 fn open_judged(text: &[u8], defs: &[u8], pattern: &[u8], store: &mut [u8], out: &mut [u8]) -> u64
-    requires { DefinitionsShaped defs.now × PatternShaped pattern.now }
+    requires definitions { DefinitionsShaped defs.now }
+    requires one_pattern { PatternShaped pattern.now }
     ensures { Left (opening text.now (trees_of (recs defs.now)) (tree_of (recs pattern.now)) (space_in (outputs store.old out.old))) (outputs store.old out.old) (outputs store.new out.new) result }
 {
     let records = slots(defs).max(slots(pattern));

@@ -23,7 +23,10 @@ unfolding opening_of
 returns-then-not-one_pattern c = search wrong_second
 
 pub open_judged-requires : goal.open_judged-requires
-open_judged-requires c = (search first_shaped, second_shaped _ _ _ _ c.sizes-n.ensures c.if-n-ne0.false _ _ refl c.one_pattern.ensures c.if-not-one_pattern.false)
+open_judged-requires c = record {
+  definitions = search first_shaped;
+  one_pattern = second_shaped _ _ _ _ c.sizes-n.ensures c.if-n-ne0.false _ _ refl c.one_pattern.ensures c.if-not-one_pattern.false;
+}
 
 pub returns : goal.returns
 unfolding opening_of
