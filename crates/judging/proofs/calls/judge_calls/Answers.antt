@@ -1,10 +1,7 @@
 use native.Mathlib.Omega.{arith}
 use borrow.Author.Rules.{rules}
-use Rattle.judging.proofs.ScanLaws.{scanning_start, scanning_end, scanning_inside, scanning_flawed, scanning_next, scanning_few, scanning_on, scanning_less}
+use Rattle.judging.proofs.ScanLaws.{scanning_end, scanning_inside, scanning_flawed, scanning_next, scanning_few, scanning_on, scanning_less}
 use Rattle.judging.proofs.calls.judge_calls.Goals as goal
-
-pub loop-todo-init : goal.loop-todo-init
-loop-todo-init c = search scanning_start
 
 pub judge_call-requires : goal.judge_call-requires
 judge_call-requires c = search (rules, scanning_inside)

@@ -1,9 +1,6 @@
 use Rattle.std.proofs.lemmas.Result.{err_from_is_err_and}
-use Rattle.judging.proofs.ListLaws.{listing_start, listing_few, listing_fits, listing_end, listing_less, listing_other, listing_here, listing_flawed, listing_after, listing_next}
+use Rattle.judging.proofs.ListLaws.{listing_few, listing_end, listing_less, listing_other, listing_here, listing_flawed, listing_after, listing_next}
 use Rattle.judging.proofs.extractors.judge_definitions.Goals as goal
-
-pub loop-i-init : goal.loop-i-init
-loop-i-init c = search listing_start
 
 pub loop-i-smaller-then-r : goal.loop-i-smaller-then-r
 loop-i-smaller-then-r c = search listing_less
@@ -18,9 +15,6 @@ pub returns-in_err-i : goal.returns-in_err-i
 returns-in_err-i c =
     let p = err_from_is_err_and c.from_residual.result c.from_residual.ensures.1 in
     rw (p.1, p.2) (search (listing_flawed, c.in_err-i.ensures))
-
-pub overflow_add-earlier : goal.overflow_add-earlier
-overflow_add-earlier c = search listing_fits
 
 pub loop-i-smaller : goal.loop-i-smaller
 loop-i-smaller c = search (listing_after, c.in_ok-i.ensures)

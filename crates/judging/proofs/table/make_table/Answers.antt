@@ -1,8 +1,5 @@
-use Rattle.judging.proofs.TableLaws.{making-start, making-end, making_less, making-other, making-many, making-row, making-next}
+use Rattle.judging.proofs.TableLaws.{making-end, making_less, making-other, making-many, making-row, making-next}
 use Rattle.judging.proofs.table.make_table.Goals as goal
-
-pub loop-i-init : goal.loop-i-init
-loop-i-init c = search making-start
 
 pub loop-i-smaller-then-r : goal.loop-i-smaller-then-r
 loop-i-smaller-then-r c = search making_less

@@ -1,13 +1,10 @@
 use Rattle.std.proofs.lemmas.Result.{err_from_is_err_and}
 use borrow.Author.Rules.{rules}
-use Rattle.judging.proofs.WholeLaws.{both-args, both-more, both-deep, both-last}
+use Rattle.judging.proofs.WholeLaws.{both-args, both-deep, both-last}
 use Rattle.judging.proofs.whole.judge_both.Goals as goal
 
 pub returns-in_err-args : goal.returns-in_err-args
 returns-in_err-args c = search (rules, both-args)
-
-pub returns-in_err-judge_args : goal.returns-in_err-judge_args
-returns-in_err-judge_args c = search (rules, both-more)
 
 pub returns-in_err-deep : goal.returns-in_err-deep
 returns-in_err-deep c =
