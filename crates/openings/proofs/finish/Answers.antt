@@ -1,11 +1,8 @@
-use Rattle.openings.proofs.CallLaws.{finish_kept, finish_refused, countable-kept, place-fits}
+use Rattle.openings.proofs.CallLaws.{finish_refused, countable-kept, place-fits}
 use Rattle.openings.proofs.finish.Goals as goal
 
 pub keep-requires : goal.keep-requires
 keep-requires c = search countable-kept
-
-pub returns-in-Ok : goal.returns-in-Ok
-returns-in-Ok c = search finish_kept
 
 pub overflow_cast-flaw : goal.overflow_cast-flaw
 overflow_cast-flaw c = search place-fits

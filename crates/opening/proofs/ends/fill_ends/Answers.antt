@@ -1,4 +1,3 @@
-use native.Mathlib.Omega.{arith}
 use Rattle.opening.proofs.EndsLaws.{ending_start, ending_hop, ending_fits, ending_next, ending_end}
 use Rattle.opening.proofs.ends.fill_ends.Goals as goal
 
