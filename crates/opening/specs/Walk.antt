@@ -11,6 +11,7 @@ use Rattle.judging.specs.declared.table.Entry.{Entry}
 use Rattle.judging.specs.Table.{RowsOf}
 use Rattle.opening.specs.declared.Side.{Side}
 use Rattle.opening.specs.declared.Side.TheVariants.{Store}
+use Rattle.opening.specs.declared.walk.Opening.{Opening}
 use Rattle.opening.specs.Wrote.{Wrote, target}
 use Rattle.opening.specs.Ends.{EndsFrom}
 use Rattle.opening.specs.Made.{params_at, call_number}
@@ -65,3 +66,23 @@ unfoldable pub Filled : Side → ℕ → List ℕ → List Entry → List ℕ �
 Filled outward space text t starts src ends pa pc k s o m s' o' y =
     (S : List (Named Tree)) → Ready text t starts src ends pa pc k s S → (x : Tree) → called_at text S (rec_at src k) (drop (k + 1) (recs src)) ≡ some x
     → Wrote outward space s o m (fill (λ j. opened_at text S (params_at src pa pc) (recs src) (child_at (recs src) k (suc j)) 1) (records x)) s' o' y
+
+-- ---- the same by what opening is given
+
+abbrev pub ReadyTo : Opening → ℕ → List ℕ → Type 0
+ReadyTo o i s = Readied o.known.text.now o.known.rows.now o.starts.now o.source.records.now o.source.ends.now o.params.first o.params.count i s
+
+abbrev pub RoomIn : Opening → List ℕ → List ℕ → ℕ → Type 0
+RoomIn o s out m = Room o.to o.space (get_or o.starts.now (length o.known.rows.now) 0) s out m
+
+abbrev pub OpenedBy : Opening → ℕ → List ℕ → List ℕ → ℕ → List ℕ → List ℕ → Option ℕ → Type 0
+OpenedBy o i s out m s' out' r =
+    Opened o.to o.space o.known.text.now o.known.rows.now o.starts.now o.source.records.now o.source.ends.now o.params.first o.params.count i s out m s' out' r
+
+abbrev pub CalledIn : Opening → ℕ → ℕ → List ℕ → List ℕ → ℕ → Type 0
+CalledIn o k x s out m =
+    Fillable o.to o.space o.known.text.now o.known.rows.now o.starts.now o.source.records.now o.source.ends.now o.params.first o.params.count k x s out m
+
+abbrev pub FilledBy : Opening → ℕ → List ℕ → List ℕ → ℕ → List ℕ → List ℕ → Option ℕ → Type 0
+FilledBy o k s out m s' out' r =
+    Filled o.to o.space o.known.text.now o.known.rows.now o.starts.now o.source.records.now o.source.ends.now o.params.first o.params.count k s out m s' out' r

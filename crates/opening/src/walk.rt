@@ -1,7 +1,7 @@
 // Opening a tree of the source into the store or into the output. It stops as soon as the space is full.
-ghost use Rattle.std.specs.Prelude.{[], ◌∷◌, length, get_or};
+ghost use Rattle.std.specs.Prelude.{[], ◌∷◌};
 ghost use Rattle.opening.specs.Wrote.{Appendable, Wrote};
-ghost use Rattle.opening.specs.Walk.{Readied, Room, Fillable, Opened, Filled};
+ghost use Rattle.opening.specs.Walk.{ReadyTo, RoomIn, CalledIn, OpenedBy, FilledBy};
 
 use crate::Side;
 use crate::ends::Forest;
@@ -41,8 +41,8 @@ impl Opening<'_> {
     // Appends the opened template of the extractor x, with the arguments of the call at the index k of the source, each opened.
     #[cycle(open_one_scan)]
     fn scan(&self, store: &mut [u8], out: &mut [u8], k: usize, x: usize, m: usize) -> Option<usize>
-        requires { Fillable self.now.to self.now.space self.now.known.text.now self.now.known.rows.now self.now.starts.now self.now.source.records.now self.now.source.ends.now self.now.params.first self.now.params.count k x store.old out.old m }
-        ensures { Filled self.now.to self.now.space self.now.known.text.now self.now.known.rows.now self.now.starts.now self.now.source.records.now self.now.source.ends.now self.now.params.first self.now.params.count k store.old out.old m store.new out.new result }
+        requires { CalledIn self.now k x store.old out.old m }
+        ensures { FilledBy self.now k store.old out.old m store.new out.new result }
     {
         let mut y = m;
         let mut from = k + 1;
@@ -64,9 +64,9 @@ impl Opening<'_> {
     // Appends the tree at the index i of the source, opened.
     #[cycle(open_one_scan)]
     pub fn open_one(&self, store: &mut [u8], out: &mut [u8], i: usize, m: usize) -> Option<usize>
-        requires readied { Readied self.now.known.text.now self.now.known.rows.now self.now.starts.now self.now.source.records.now self.now.source.ends.now self.now.params.first self.now.params.count i store.old }
-        requires room { Room self.now.to self.now.space (get_or self.now.starts.now (length self.now.known.rows.now) 0) store.old out.old m }
-        ensures { Opened self.now.to self.now.space self.now.known.text.now self.now.known.rows.now self.now.starts.now self.now.source.records.now self.now.source.ends.now self.now.params.first self.now.params.count i store.old out.old m store.new out.new result }
+        requires readied { ReadyTo self.now i store.old }
+        requires room { RoomIn self.now store.old out.old m }
+        ensures { OpenedBy self.now i store.old out.old m store.new out.new result }
     {
         let mut todo = 1;
         let mut k = i;
