@@ -1,10 +1,10 @@
-// The cases of opening. A case of `open.answers`: text length, record counts of the definition list, of the pattern, of the store lent and of the
-// output lent (32 bits each), the number returned (64 bits), text, definition list, pattern, and after an acceptance the store and the output; the
-// most significant byte first.
+// The cases of opening. A case of `open.answers`: text length, record counts of the definition list, of the pattern, of the store lent and
+// of the output lent (32 bits each), the number returned (64 bits), text, definition list, pattern, and after an acceptance the store and
+// the output; the most significant byte first.
 ghost use Rattle.std.specs.Prelude.{◌≡◌, ◌+◌, ◌≤◌, true, length};
 ghost use Rattle.replay.specs.Agreed.{agreed_both};
 ghost use Rattle.replay.specs.Counted.{after_opening};
-ghost use Rattle.replay.specs.Said.{opened};
+ghost use Rattle.replay.specs.Said.{opened_of};
 ghost use Rattle.replay.specs.SmallOpening.{SmallOpening};
 
 use crate::outputs::{holds, prefill, same_answer};
@@ -29,7 +29,7 @@ struct Answered<'a> {
 impl Answered<'_> {
     // Whether the entry answers that number, and leaves the records and then zeros in the store and in the output.
     fn agrees(&self, store: &mut [u8], out: &mut [u8]) -> bool
-        ensures { result ≡ agreed_both (opened self.now.text.now self.now.defs.now self.now.pattern.now (length store.old) (length out.old)) self.now.answer self.now.stored.now self.now.written.now }
+        ensures { result ≡ agreed_both (opened_of self.now (length store.old) (length out.old)) self.now.answer self.now.stored.now self.now.written.now }
     {
         prefill(store);
         prefill(out);
@@ -44,7 +44,7 @@ impl Answered<'_> {
     fn agrees_at(&self, store: &mut [u8], s: usize, out: &mut [u8], o: usize) -> bool
         requires s_in_bounds { s ≤ length store.old }
         requires o_in_bounds { o ≤ length out.old }
-        ensures { result ≡ agreed_both (opened self.now.text.now self.now.defs.now self.now.pattern.now s o) self.now.answer self.now.stored.now self.now.written.now }
+        ensures { result ≡ agreed_both (opened_of self.now s o) self.now.answer self.now.stored.now self.now.written.now }
     {
         self.agrees(&mut store[..s], &mut out[..o])
     }
@@ -53,7 +53,7 @@ impl Answered<'_> {
     fn compare(&self, store: &mut [u8], s: usize, out: &mut [u8], o: usize, tally: Tally) -> Tally
         requires s_in_bounds { s + 10 ≤ length store.old }
         requires o_in_bounds { o + 10 ≤ length out.old }
-        ensures { result.differ ≡ after_opening tally.differ (opened self.now.text.now self.now.defs.now self.now.pattern.now) s o self.now.answer self.now.stored.now self.now.written.now }
+        ensures { result.differ ≡ after_opening tally.differ (opened_of self.now) s o self.now.answer self.now.stored.now self.now.written.now }
     {
         let exact = self.agrees_at(store, s, out, o);
         let more = self.agrees_at(store, s + 10, out, o + 10);

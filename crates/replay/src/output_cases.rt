@@ -1,13 +1,13 @@
 // The cases of the entries with one output: reading, reading of text, template making and substitution. A case of `template.answers` or
-// `substitute.answers`: text length, record counts of the first list, of the second list and of the output (32 bits each), the number returned
-// (64 bits), text, first list, second list, records; the most significant byte first. A case of `text.answers` is the same with two empty lists. A
-// case of `read.answers`: token count, text length, end position, record count (32 bits each), the number returned (64 bits), tokens, text,
-// records; the tokens are its first list here, and its second list is empty. The record count is 0 after a refusal. differential/README.md says
-// what the cases are and how the files are made.
+// `substitute.answers`: text length, record counts of the first list, of the second list and of the output (32 bits each), the number
+// returned (64 bits), text, first list, second list, records; the most significant byte first. A case of `text.answers` is the same with
+// two empty lists. A case of `read.answers`: token count, text length, end position, record count (32 bits each), the number returned
+// (64 bits), tokens, text, records; the tokens are its first list here, and its second list is empty. The record count is 0 after a
+// refusal. differential/README.md says what the cases are and how the files are made.
 ghost use Rattle.std.specs.Prelude.{◌≡◌, ◌+◌, ◌*◌, ◌≤◌, true, length};
 ghost use Rattle.replay.specs.Agreed.{agreed};
 ghost use Rattle.replay.specs.Counted.{after_room, after_short, after_case};
-ghost use Rattle.replay.specs.Said.{says, said};
+ghost use Rattle.replay.specs.Said.{says, said_of};
 ghost use Rattle.replay.specs.SmallCase.{SmallCase};
 
 use crate::outputs::{prefill, same_answer, without_space};
@@ -41,7 +41,7 @@ struct Lent<'a> {
 
 impl Lent<'_> {
     fn answer_of(&self, out: &mut [u8]) -> u64
-        ensures { says result out.new ≡ said self.now.entry self.now.text.now self.now.first.now self.now.second.now self.now.end (length out.old) }
+        ensures { says result out.new ≡ said_of self.now (length out.old) }
     {
         match self.entry {
             Entry::Read => return read(self.first, self.text, self.end, out),
@@ -53,7 +53,7 @@ impl Lent<'_> {
 
     // Whether the entry answers that number, and leaves the records and then zeros in the output.
     fn agrees(&self, out: &mut [u8], answer: u64, records: &[u8]) -> bool
-        ensures { result ≡ agreed (said self.now.entry self.now.text.now self.now.first.now self.now.second.now self.now.end (length out.old)) answer records.now }
+        ensures { result ≡ agreed (said_of self.now (length out.old)) answer records.now }
     {
         prefill(out);
         let number = self.answer_of(out);
@@ -63,7 +63,7 @@ impl Lent<'_> {
     // The same with an output of that size.
     fn agrees_at(&self, out: &mut [u8], size: usize, answer: u64, records: &[u8]) -> bool
         requires { size ≤ length out.old }
-        ensures { result ≡ agreed (said self.now.entry self.now.text.now self.now.first.now self.now.second.now self.now.end size) answer records.now }
+        ensures { result ≡ agreed (said_of self.now size) answer records.now }
     {
         self.agrees(&mut out[..size], answer, records)
     }
@@ -72,7 +72,7 @@ impl Lent<'_> {
     // within a record.
     fn compare_room(&self, answer: u64, records: &[u8], out: &mut [u8], tally: Tally) -> Tally
         requires { length records.now + (3 * length self.now.first.now + 1000) ≤ length out.old }
-        ensures { result.differ ≡ after_room tally.differ (said self.now.entry self.now.text.now self.now.first.now self.now.second.now self.now.end) (3 * length self.now.first.now + 1000) answer records.now }
+        ensures { result.differ ≡ after_room tally.differ (said_of self.now) (3 * length self.now.first.now + 1000) answer records.now }
     {
         let size = records.len();
         let large = size + (3 * self.first.len() + 1000);
@@ -84,7 +84,7 @@ impl Lent<'_> {
     // An output that lacks a byte, where one is needed at all.
     fn compare_short(&self, answer: u64, size: usize, out: &mut [u8], tally: Tally) -> Tally
         requires { size ≤ length out.old }
-        ensures { result.differ ≡ after_short tally.differ (said self.now.entry self.now.text.now self.now.first.now self.now.second.now self.now.end) answer size }
+        ensures { result.differ ≡ after_short tally.differ (said_of self.now) answer size }
     {
         if size == 0 {
             return tally;
@@ -95,7 +95,7 @@ impl Lent<'_> {
 
     fn compare(&self, answer: u64, records: &[u8], out: &mut [u8], tally: Tally) -> Tally
         requires { length records.now + (3 * length self.now.first.now + 1000) ≤ length out.old }
-        ensures { result.differ ≡ after_case tally.differ (said self.now.entry self.now.text.now self.now.first.now self.now.second.now self.now.end) (3 * length self.now.first.now + 1000) answer records.now }
+        ensures { result.differ ≡ after_case tally.differ (said_of self.now) (3 * length self.now.first.now + 1000) answer records.now }
     {
         let t = self.compare_room(answer, records, out, tally.case());
         self.compare_short(answer, records.len(), out, t)
