@@ -55,6 +55,7 @@ pub fn judge_calls(
 {
     let mut todo = trees;
     let mut k = at;
+    // Kept: each record changes how many trees are left, so that no range or chain of iterators says when to stop.
     while todo > 0 {
         if let Some(reason) = judge_call(known, earlier, src, k) {
             return Err(Flaw { reason, place: k });

@@ -62,6 +62,7 @@ pub fn judge_definitions(known: &Extractors, defs: &[u8]) -> Result<usize, Flaw>
     let end = slots(defs);
     let mut earlier = 0;
     let mut i = 0;
+    // Kept: the index goes on by whole trees, by what judging one of them answers; an iterator of trees would hold this same loop.
     while i < end {
         let r = rec_at(defs, i);
         if r.kind != Kind::Extractor as u8 {

@@ -78,6 +78,7 @@ pub fn make_table(defs: &[u8], table: &mut [Entry]) -> Result<usize, Flaw>
     let end = slots(defs);
     let mut n = 0;
     let mut i = 0;
+    // Kept: the index goes on by whole trees; an iterator of trees would hold this same loop.
     while i < end {
         let r = rec_at(defs, i);
         if r.kind != Kind::Extractor as u8 {

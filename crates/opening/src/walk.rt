@@ -71,6 +71,7 @@ impl Opening<'_> {
         let mut todo = 1;
         let mut k = i;
         let mut y = m;
+        // Kept: each record changes how many trees are left, so that no range or chain of iterators says when to stop.
         while todo > 0 {
             if let Some(x) = call_at(&self.known, self.source.records, k) {
                 y = self.scan(store, out, k, x, y)?;

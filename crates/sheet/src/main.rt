@@ -51,6 +51,7 @@ fn print_reading(rt: &impl Print, tokens: &[u8], text: &[u8], end: u32) -> io::R
 }
 
 // Whether the input went on for all of the buffer.
+// Kept: the program replay has the same function; a library that the two would share for these few lines is no plainer.
 fn filled(input: &mut impl Read, buf: &mut [u8]) -> io::Result<bool> {
     match input.read_exact(buf) {
         Ok(()) => Ok(true),
