@@ -2,6 +2,8 @@
 use mathlib.Core.Path.{◌≡◌, refl, sym, ap, ◌∙◌}
 use mathlib.Core.Bool.{Bool, true, false}
 use mathlib.Core.Option.{Option, none, some}
+use Rattle.std.specs.Prelude.{Option as Maybe, Some, None}
+use Rattle.records.specs.declared.Ground.{Ground}
 use mathlib.Core.List.{List, [], ◌∷◌}
 use Prim.Native.Nat.{ℕ, ◌+◌, ◌-◌, ◌<◌, ◌≤◌}
 use native.Mathlib.Decide.{dec_lt}
@@ -23,37 +25,42 @@ use Rattle.expansion.proofs.FlatOpening.{called_flat}
 use Rattle.expansion.proofs.IndexLaws.{all-at}
 use Rattle.grounds.specs.Order.{by_call, call_flaw, is_some}
 use Rattle.grounds.proofs.At.{here, past}
+use Rattle.judging.specs.declared.table.Entry.{Entry}
 use Rattle.judging.specs.Table.{arity_in, looked}
-use Rattle.judging.specs.Judging.{children_at, Known, known_all, by_number, its_flaw, MarkedAt}
-use Rattle.judging.proofs.LookLaws.{found-row, missing-row, first-row, rows-first, rows-others, least, missing-all}
+use Rattle.judging.specs.Judging.{children_at, Known, known_all, mark_of, by_number, its_flaw, MarkedAt}
+use Rattle.judging.proofs.LookLaws.{found-row, missing-row, first-row, rows-first, rows-others, least, missing-all, seek, looked_is, looked_some, looked_none}
 
 -- ---- by a number
 
-module _ (t : List ℕ) (n earlier x c : ℕ) where
-  pub number-fine : (l : ℕ) → x < earlier → l ≡ c - 1 → arity_in t x ≡ l → 0 ≡ by_number t n earlier x c
+module _ (t : List Entry) (earlier : ℕ) (o : Maybe ℕ) (c : ℕ) where
+  pub number-none : (r : Maybe Ground) → o ≡ None → r ≡ None → mark_of r ≡ by_number t earlier o c
   unfolding by_number
-  number-fine l h p q = rw (lt-ltb x earlier h, eq-eqb (arity_in t x) (c - 1) (q ∙ p))
+  number-none r e q = rw (e, q)
 
-  pub number-wrong : (l : ℕ) → x < earlier → l ≡ c - 1 → (arity_in t x ≡ l → ⊥) → 31 ≡ by_number t n earlier x c
-  unfolding by_number
-  number-wrong l h p q = rw (lt-ltb x earlier h, ne_eqb (arity_in t x) (c - 1) (λ e. q (e ∙ sym p)))
+  module _ (x : ℕ) (is : o ≡ Some x) where
+    pub number-later : earlier ≤ x → 32 ≡ by_number t earlier o c
+    unfolding by_number
+    number-later h = rw (is, le-ltb x earlier h)
 
-  pub number-none : earlier ≤ x → x ≡ n → 0 ≡ by_number t n earlier x c
-  unfolding by_number
-  number-none h e = rw (le-ltb x earlier h, eq-eqb x n e)
+    pub number-fine : (l : ℕ) → x < earlier → l ≡ c - 1 → arity_in t x ≡ l → 0 ≡ by_number t earlier o c
+    unfolding by_number
+    number-fine l h p q = rw (is, lt-ltb x earlier h, eq-eqb (arity_in t x) (c - 1) (q ∙ p))
 
-  pub number-later : earlier ≤ x → (x ≡ n → ⊥) → 32 ≡ by_number t n earlier x c
-  unfolding by_number
-  number-later h e = rw (le-ltb x earlier h, ne_eqb x n e)
+    pub number-wrong : (l : ℕ) → x < earlier → l ≡ c - 1 → (arity_in t x ≡ l → ⊥) → 31 ≡ by_number t earlier o c
+    unfolding by_number
+    number-wrong l h p q = rw (is, lt-ltb x earlier h, ne_eqb (arity_in t x) (c - 1) (λ e. q (e ∙ sym p)))
 
--- ---- names looked up among the extractors
+-- ---- names seek up among the extractors
 
-abbrev arities : List ℕ → ℕ → Extractor → Type 0
+abbrev arities : List Entry → ℕ → Extractor → Type 0
 arities t x v = count v.params ≡ arity_in t x
 
-module _ (text t : List ℕ) (w : ℕ) where
-  module _ (n earlier c : ℕ) (k : Known text t n earlier) where
-    pub number_is : by_number t n earlier (looked text t w 0 n) c ≡ by_call (find (spelled text w) k.first) (find (spelled text w) (known_all k)) (c - 1)
+module _ (text : List ℕ) (t : List Entry) (w : ℕ) where
+  module _ (earlier c : ℕ) (k : Known text t earlier) where
+    abbrev n : ℕ
+    n = length t
+
+    pub number_is : by_number t earlier (looked text t w) c ≡ by_call (find (spelled text w) k.first) (find (spelled text w) (known_all k)) (c - 1)
     unfolding by_number
     number_is = go (find (spelled text w) k.first) refl (find (spelled text w) k.others) refl
       where
@@ -68,52 +75,59 @@ module _ (text t : List ℕ) (w : ℕ) where
             turn false e = rw (e, ne_eqb b a (λ z. eqb-false a b e (sym z)))
 
         go : (o : Option Extractor) → find (spelled text w) k.first ≡ o → (q : Option Extractor) → find (spelled text w) k.others ≡ q
-            → by_number t n earlier (looked text t w 0 n) c ≡ by_call (find (spelled text w) k.first) (find (spelled text w) (known_all k)) (c - 1)
+            → by_number t earlier (looked text t w) c ≡ by_call (find (spelled text w) k.first) (find (spelled text w) (known_all k)) (c - 1)
         go (some v) e q f =
             let r = rows-first (arities t) text t w 0 k.first k.others k.rows in
-            let x : looked text t w 0 n ≡ looked text t w 0 (length k.first) = ap (looked text t w 0) total ∙ first-row (arities t) text t w 0 k.first (length k.others) r v e in
+            let x : seek text t w 0 n ≡ seek text t w 0 (length k.first) = ap (seek text t w 0) total ∙ first-row (arities t) text t w 0 k.first (length k.others) r v e in
             let y = found-row (arities t) text t w 0 k.first r v e in
-            let l : looked text t w 0 (length k.first) < earlier = omega (arith, y.1, k.sized) in
-            rw (x, e, lt-ltb (looked text t w 0 (length k.first)) earlier l, ← y.0) (back (count v.params) (c - 1))
+            let l : seek text t w 0 (length k.first) < earlier = omega (arith, y.1, k.sized) in
+            rw (looked_is text t w, x, lt-ltb (seek text t w 0 (length k.first)) n (omega arith), e, lt-ltb (seek text t w 0 (length k.first)) earlier l, ← y.0) (back (count v.params) (c - 1))
         go none e (some v) f =
             let r = rows-others (arities t) text t w 0 k.first k.others k.rows in
             let z : 0 + length k.first ≡ length k.first = omega arith in
-            let x : looked text t w 0 n ≡ looked text t w (0 + length k.first) (length k.others) = ap (looked text t w 0) total ∙ missing-row (arities t) text t w 0 k.first (length k.others) (rows-first (arities t) text t w 0 k.first k.others k.rows) e in
+            let x : seek text t w 0 n ≡ seek text t w (0 + length k.first) (length k.others) = ap (seek text t w 0) total ∙ missing-row (arities t) text t w 0 k.first (length k.others) (rows-first (arities t) text t w 0 k.first k.others k.rows) e in
             let y = found-row (arities t) text t w (0 + length k.first) k.others r v f in
             let above = least (arities t) text t w (length k.others) (0 + length k.first) in
-            let l : earlier ≤ looked text t w (0 + length k.first) (length k.others) = omega (arith, above, k.sized) in
-            let d : looked text t w (0 + length k.first) (length k.others) ≡ n → ⊥ = λ q. omega (arith, y.1) in
-            rw (x, e, find-later (spelled text w) k.first k.others e, f, le-ltb (looked text t w (0 + length k.first) (length k.others)) earlier l, ne_eqb (looked text t w (0 + length k.first) (length k.others)) n d)
+            let l : earlier ≤ seek text t w (0 + length k.first) (length k.others) = omega (arith, above, k.sized) in
+            rw (looked_is text t w, x, lt-ltb (seek text t w (0 + length k.first) (length k.others)) n (omega (arith, y.1, k.sized, k.all)), e, find-later (spelled text w) k.first k.others e, f, le-ltb (seek text t w (0 + length k.first) (length k.others)) earlier l)
         go none e none f =
             let r = rows-others (arities t) text t w 0 k.first k.others k.rows in
-            let x : looked text t w 0 n ≡ n =
-            ap (looked text t w 0) total ∙ missing-row (arities t) text t w 0 k.first (length k.others) (rows-first (arities t) text t w 0 k.first k.others k.rows) e
+            let x : seek text t w 0 n ≡ n =
+            ap (seek text t w 0) total ∙ missing-row (arities t) text t w 0 k.first (length k.others) (rows-first (arities t) text t w 0 k.first k.others k.rows) e
             ∙ missing-all (arities t) text t w (0 + length k.first) k.others r f ∙ omega (arith, k.all) in
-            let l : earlier ≤ n = omega (arith, k.sized, k.all) in
-            rw (x, e, find-later (spelled text w) k.first k.others e, f, le-ltb n earlier l, eq-eqb n n refl)
+            rw (looked_is text t w, x, le-ltb n n (omega arith), e, find-later (spelled text w) k.first k.others e, f)
 
     -- the name of an extractor among the earlier ones
-    pub name-is : looked text t w 0 earlier < earlier → is_some (find (spelled text w) k.first) ≡ true
-    name-is h = go (find (spelled text w) k.first) refl
+    pub name-is : (x : ℕ) → looked text t w ≡ Some x → x < earlier → is_some (find (spelled text w) k.first) ≡ true
+    name-is x s h = go (find (spelled text w) k.first) refl
       where
         go : (o : Option Extractor) → find (spelled text w) k.first ≡ o → is_some (find (spelled text w) k.first) ≡ true
         go (some v) e = rw e
         go none e = absurd (
-            let x = missing-all (arities t) text t w 0 k.first (rows-first (arities t) text t w 0 k.first k.others k.rows) e in
-            let y : looked text t w 0 earlier ≡ looked text t w 0 (length k.first) = ap (looked text t w 0) (sym k.sized) in
-            omega (arith, k.sized)
+            let y = missing-row (arities t) text t w 0 k.first (length k.others) (rows-first (arities t) text t w 0 k.first k.others k.rows) e in
+            let z : seek text t w 0 n ≡ seek text t w 0 (length k.first + length k.others) = ap (seek text t w 0) (sym k.all) in
+            omega (arith, k.sized, (looked_some text t w x s).0, least (arities t) text t w (length k.others) (0 + length k.first))
             )
 
-    pub name_not : earlier ≤ looked text t w 0 earlier → is_some (find (spelled text w) k.first) ≡ false
-    name_not h = go (find (spelled text w) k.first) refl
+    -- no number below `earlier` is found
+    name_absent : earlier ≤ seek text t w 0 n → is_some (find (spelled text w) k.first) ≡ false
+    name_absent h = go (find (spelled text w) k.first) refl
       where
         go : (o : Option Extractor) → find (spelled text w) k.first ≡ o → is_some (find (spelled text w) k.first) ≡ false
         go none e = rw e
         go (some v) e = absurd (
-            let x = found-row (arities t) text t w 0 k.first (rows-first (arities t) text t w 0 k.first k.others k.rows) v e in
-            let y : looked text t w 0 earlier ≡ looked text t w 0 (length k.first) = ap (looked text t w 0) (sym k.sized) in
+            let r = rows-first (arities t) text t w 0 k.first k.others k.rows in
+            let x = found-row (arities t) text t w 0 k.first r v e in
+            let y = first-row (arities t) text t w 0 k.first (length k.others) r v e in
+            let z : seek text t w 0 n ≡ seek text t w 0 (length k.first + length k.others) = ap (seek text t w 0) (sym k.all) in
             omega (arith, k.sized, x.1)
             )
+
+    pub name_not : (x : ℕ) → looked text t w ≡ Some x → earlier ≤ x → is_some (find (spelled text w) k.first) ≡ false
+    name_not x s h = name_absent (omega (arith, (looked_some text t w x s).0))
+
+    pub name-nowhere : looked text t w ≡ None → is_some (find (spelled text w) k.first) ≡ false
+    name-nowhere s = name_absent (omega (arith, looked_none text t w s, k.sized, k.all))
 
 -- ---- the record k as a call
 
@@ -139,7 +153,7 @@ module _ (src : List ℕ) (k : ℕ) (r : Rec) (is : r ≡ rec_at src k) (inside 
         go (yes h) = h
         go (no h) = let z : drop (k + 1) (recs src) ≡ [] = past src (k + 1) (omega arith) in absurd (rw z at (placed.term is-term).1)
 
-module _ (text t : List ℕ) (n earlier : ℕ) (src : List ℕ) (k : ℕ) (r : Rec) (is : r ≡ rec_at src k) (inside : k < slots src) (a : All Placed (recs src)) where
+module _ (text : List ℕ) (t : List Entry) (earlier : ℕ) (src : List ℕ) (k : ℕ) (r : Rec) (is : r ≡ rec_at src k) (inside : k < slots src) (a : All Placed (recs src)) where
   flat : (E : Extractors) → called text E (head_of (rec_at src k)) (children_at src k) ≡ called_at text E r (drop (k + 1) (recs src))
   flat E = rw (← is) (sym (called_flat text r E (drop (k + 1) (recs src)) (placed src k r is inside a)))
 
@@ -148,7 +162,7 @@ module _ (text t : List ℕ) (n earlier : ℕ) (src : List ℕ) (k : ℕ) (r : R
   no_call E q [] = refl
   no_call E q (i ∷ rs) = rw (ne_eqb r.kind 35 q)
 
-  pub call_plain : (r.kind ≡ 35 → ⊥) → MarkedAt (its_flaw text t n earlier) src k 0
+  pub call_plain : (r.kind ≡ 35 → ⊥) → MarkedAt (its_flaw text t earlier) src k 0
   unfolding MarkedAt call_flaw
   call_plain q x = rw (flat x.first, flat (known_all x), no_call x.first q (drop (k + 1) (recs src)), no_call (known_all x) q (drop (k + 1) (recs src)))
 
@@ -160,9 +174,9 @@ module _ (text t : List ℕ) (n earlier : ℕ) (src : List ℕ) (k : ℕ) (r : R
     args_are : count (rest (children_at src k)) ≡ r.count - 1
     args_are = count-rest (children_at src k) ∙ ap (◌- 1) (rw (← is) (count-firsts r.count (trees_of (drop (k + 1) (recs src))) (placed src k r is inside a).whole))
 
-    pub call_number_lem : (i : Rec) (x y : ℕ) → i ≡ rec_at src (k + 1) → x ≡ looked text t i.word1 0 n → y ≡ by_number t n earlier x r.count → MarkedAt (its_flaw text t n earlier) src k y
+    pub call_number_lem : (i : Rec) (x : Maybe ℕ) (y : ℕ) → i ≡ rec_at src (k + 1) → x ≡ looked text t i.word1 → y ≡ by_number t earlier x r.count → MarkedAt (its_flaw text t earlier) src k y
     unfolding MarkedAt call_flaw
     call_number_lem i x y p q e kn =
-        e ∙ ap (λ (z : ℕ). by_number t n earlier z r.count) (q ∙ ap (λ (j : Rec). looked text t j.word1 0 n) p)
-        ∙ number_is text t (rec_at src (k + 1)).word1 n earlier r.count kn
+        e ∙ ap (λ (z : Maybe ℕ). by_number t earlier z r.count) (q ∙ ap (λ (j : Rec). looked text t j.word1) p)
+        ∙ number_is text t (rec_at src (k + 1)).word1 earlier r.count kn
         ∙ sym (rw (flat kn.first, flat (known_all kn), calls-name kn.first, calls-name (known_all kn), args_are))

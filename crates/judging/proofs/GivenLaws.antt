@@ -1,21 +1,58 @@
 -- What an answer gives, where one ground is judged after another. Assumes nothing.
-use mathlib.Core.Path.{◌≡◌, sym, ap, ◌∙◌}
+use mathlib.Core.Path.{◌≡◌, ap, ◌∙◌}
 use mathlib.Core.Option.{Option}
-use Prim.Native.Nat.{ℕ}
+use Prim.Native.Nat.{ℕ, ◌<◌}
 use native.Mathlib.Omega.{arith}
 use Rattle.grounds.specs.Stages.{Refusal, ◌or_else◌}
-use Rattle.judging.specs.declared.Judged.{Judged}
-use Rattle.judging.specs.declared.Judged.TheVariants.{Fine, Flawed}
-use Rattle.judging.specs.Judging.{given}
+use Rattle.std.specs.Prelude.{Ok, Err}
+use Rattle.records.specs.declared.Ground.{Ground}
+use Rattle.records.specs.declared.Ground.TheVariants.{PartOfARecord, BadToken, MalformedList, MacroArg, MacroArgIndex, NoSpace, TooMuch, TooDeep, UnexpectedToken, UnexpectedEnd, UnknownDefinition, EmptyIdentifier, FirstCharacter, LaterCharacter, NotAConstant, UnknownPragma, TypeModifier, TypeDefinition, Attribute, VerificationAttribute, Extern, RuleName, Priority, Pattern, Expression, UncoveredWord, ExtractorName, ArgumentCount, CallOrder, TooManyExtractors, NotAToken, NotAscii}
+use Rattle.records.specs.Grounds.{number}
+use Rattle.judging.specs.declared.Flaw.{Flaw}
+use Rattle.judging.specs.Judging.{Judged, given}
 
 -- a refusal is the first of two, whatever comes after it
-pub flawed_first : (j : Judged) (f k : ℕ) (g h : Option Refusal) → j ≡ Flawed f k → given j ≡ g → given j ≡ g or_else h
-flawed_first (Fine n) f k g h e q = absurd (let z : ◌≡◌ {A = ℕ} 0 1 = cc in omega arith)
-flawed_first (Flawed f' k') f k g h e q = ap (◌or_else h) q
+pub flawed_first : (f : Flaw) (g h : Option Refusal) → given (Err f) ≡ g → given (Err f) ≡ g or_else h
+flawed_first f g h q = ap (◌or_else h) q
 
 -- a fine answer leaves the second
-pub fine-next : (i j : Judged) (m : ℕ) (g h : Option Refusal) → i ≡ Fine m → given i ≡ g → given j ≡ h → given j ≡ g or_else h
-fine-next i j m g h e p q = q ∙ ap (◌or_else h) (sym (ap given e) ∙ p)
+pub fine-next : (j : Judged) (m : ℕ) (g h : Option Refusal) → given (Ok m) ≡ g → given j ≡ h → given j ≡ g or_else h
+fine-next j m g h p q = q ∙ ap (◌or_else h) p
 
-pub flawed_fine : (j : Judged) (f k n : ℕ) → j ≡ Flawed f k → j ≡ Fine n → ⊥
-flawed_fine j f k n e d = let z : ◌≡◌ {A = ℕ} 0 1 = cc in omega arith
+pub flawed_fine : (f : Flaw) (n : ℕ) → ◌≡◌ {A = Judged} (Err f) (Ok n) → ⊥
+flawed_fine f n e = let z : ◌≡◌ {A = ℕ} 0 1 = cc in omega arith
+
+-- no ground has the number 0
+pub number_some : (g : Ground) → 0 < number g
+number_some PartOfARecord = omega arith
+number_some BadToken = omega arith
+number_some MalformedList = omega arith
+number_some MacroArg = omega arith
+number_some MacroArgIndex = omega arith
+number_some NoSpace = omega arith
+number_some TooMuch = omega arith
+number_some TooDeep = omega arith
+number_some UnexpectedToken = omega arith
+number_some UnexpectedEnd = omega arith
+number_some UnknownDefinition = omega arith
+number_some EmptyIdentifier = omega arith
+number_some FirstCharacter = omega arith
+number_some LaterCharacter = omega arith
+number_some NotAConstant = omega arith
+number_some UnknownPragma = omega arith
+number_some TypeModifier = omega arith
+number_some TypeDefinition = omega arith
+number_some Attribute = omega arith
+number_some VerificationAttribute = omega arith
+number_some Extern = omega arith
+number_some RuleName = omega arith
+number_some Priority = omega arith
+number_some Pattern = omega arith
+number_some Expression = omega arith
+number_some UncoveredWord = omega arith
+number_some ExtractorName = omega arith
+number_some ArgumentCount = omega arith
+number_some CallOrder = omega arith
+number_some TooManyExtractors = omega arith
+number_some NotAToken = omega arith
+number_some NotAscii = omega arith

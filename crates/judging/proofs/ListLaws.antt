@@ -3,7 +3,7 @@ use mathlib.Core.Path.{◌≡◌, refl, sym, ap, ◌∙◌}
 use mathlib.Core.Bool.{Bool, true, false}
 use mathlib.Core.Option.{Option}
 use mathlib.Core.List.{List, [], ◌∷◌, ◌++◌, append_assoc, append-nil}
-use Prim.Native.Nat.{ℕ, ◌+◌, ◌-◌, ◌*◌, ◌<◌, ◌≤◌}
+use Prim.Native.Nat.{ℕ, ◌+◌, ◌-◌, ◌<◌, ◌≤◌}
 use native.Mathlib.Omega.{arith}
 use lib.ListN.{length, drop, length-append}
 use mir.Syntax.{w64}
@@ -23,8 +23,9 @@ use Rattle.grounds.specs.Stages.{Refusal, ◌or_else◌, verdict, in_turn}
 use Rattle.grounds.specs.Order.{Site, stages_of, sites}
 use Rattle.grounds.proofs.StageLaws.{verdict_++}
 use Rattle.grounds.proofs.At.{here, past, length-recs, skip-end, kids_at, trees-at, end_more, end-upto, tree-size, two-children, second-there}
-use Rattle.judging.specs.declared.Judged.{Judged}
-use Rattle.judging.specs.declared.Judged.TheVariants.{Fine, Flawed}
+use Rattle.std.specs.Prelude.{Ok, Err}
+use Rattle.judging.specs.declared.Flaw.{Flaw}
+use Rattle.judging.specs.declared.table.Entry.{Entry}
 use Rattle.judging.specs.Table.{Table}
 use Rattle.judging.specs.Judging.{Low, Known, known_all, ExtractorAt, site_at, ExtractorJudged, turns, ListJudged}
 use Rattle.judging.specs.Whole.{DefinitionsShaped}
@@ -36,38 +37,35 @@ extractor-one text ∅ h = absurd (omega arith)
 extractor-one text (t ▸ ∅) h = absurd (omega arith)
 extractor-one text (t ▸ u ▸ us) h = refl
 
-pub record Listing (text defs t : List ℕ) (n earlier i : ℕ) : Type 0 where
+pub record Listing (text defs : List ℕ) (t : List Entry) (earlier i : ℕ) : Type 0 where
   pub shape : DefinitionsShaped defs
-  pub table : Table text defs t n
+  pub table : Table text defs t
   pub upto : i ≤ slots defs
   pub first : Extractors
   pub sized : length first ≡ earlier
   pub whole : extractors text (trees_of (recs defs)) ≡ first ++ extractors text (trees_of (drop i (recs defs)))
   pub leads : turns text (extractors text (trees_of (recs defs))) 0 [] (trees_of (recs defs)) ≡ turns text (extractors text (trees_of (recs defs))) i first (trees_of (drop i (recs defs)))
 
-pub listing_start : (text defs t : List ℕ) (n : ℕ) → DefinitionsShaped defs → Table text defs t n → Listing text defs t n 0 0
-listing_start text defs t n d b = record { shape = d; table = b; upto = omega arith; first = []; sized = refl; whole = refl; leads = refl }
+pub listing_start : (text defs : List ℕ) (t : List Entry) → DefinitionsShaped defs → Table text defs t → Listing text defs t 0 0
+listing_start text defs t d b = record { shape = d; table = b; upto = omega arith; first = []; sized = refl; whole = refl; leads = refl }
 
-module _ (text defs t : List ℕ) (n earlier i end : ℕ) (g : Listing text defs t n earlier i) (all : end ≡ slots defs) where
+module _ (text defs : List ℕ) (t : List Entry) (earlier i end : ℕ) (g : Listing text defs t earlier i) (all : end ≡ slots defs) where
   abbrev D : Extractors
   D = extractors text (trees_of (recs defs))
 
   a : All Placed (recs defs)
   a = g.shape.placed
 
-  b : Table text defs t n
+  b : Table text defs t
   b = g.table
 
-  pub listing_few : earlier ≤ n
+  pub listing_few : earlier ≤ length t
   listing_few = omega (arith, g.sized, ap length g.whole, length-append g.first (extractors text (trees_of (drop i (recs defs)))), b.size)
 
   pub listing_fits : Fits w64 (earlier + 1)
   listing_fits = omega (arith, listing_few, b.few)
 
-  pub listing_rows : 3 * n ≤ length t
-  listing_rows = omega (arith, b.few, b.long)
-
-  pub listing_end : (m : ℕ) → end ≤ i → ListJudged text defs (Fine m)
+  pub listing_end : (m : ℕ) → end ≤ i → ListJudged text defs (Ok m)
   unfolding Low trees_of sites in_turn verdict
   listing_end m h = let z : drop i (recs defs) ≡ [] = past defs i (omega arith) in record { gives = sym (g.leads ∙ rw z); low = tt }
 
@@ -93,7 +91,7 @@ module _ (text defs t : List ℕ) (n earlier i end : ℕ) (g : Listing text defs
       unfolding extractors
       whole-next = g.whole ∙ rw (trees-at (recs defs) i r spot, kind, append_assoc)
 
-    pub listing_other : (j : ℕ) → (r.kind ≡ 19 → ⊥) → j ≡ i + skip 1 (left defs i) → Listing text defs t n earlier j
+    pub listing_other : (j : ℕ) → (r.kind ≡ 19 → ⊥) → j ≡ i + skip 1 (left defs i) → Listing text defs t earlier j
     unfolding is_extractor
     listing_other j k e =
         let q : is_extractor r.kind ≡ false = ne_eqb r.kind 19 k in
@@ -123,8 +121,8 @@ module _ (text defs t : List ℕ) (n earlier i end : ℕ) (g : Listing text defs
       unfolding is_extractor
       has_kind = eq-eqb r.kind 19 k
 
-      abbrev known : Known text t n earlier
-      known = table_known text defs t n earlier g.first (extractors text (trees_of (drop i (recs defs)))) a b g.whole g.sized
+      abbrev known : Known text t earlier
+      known = table_known text defs t earlier g.first (extractors text (trees_of (drop i (recs defs)))) a b g.whole g.sized
 
       abbrev others-after : Option Refusal
       others-after = turns text D (end_of (recs defs) i) (g.first ++ extractor text (kids_at (recs defs) i r spot)) (trees_of (drop (end_of (recs defs) i) (recs defs)))
@@ -137,15 +135,14 @@ module _ (text defs t : List ℕ) (n earlier i end : ℕ) (g : Listing text defs
           ∙ ap (λ (F : Extractors). verdict (stages_of text F (record { place = i; children = kids_at (recs defs) i r spot; earlier = g.first })) or_else others-after) g.whole
           ∙ ap (λ (s : Rec). verdict (stages_of text (known_all known) (record { place = i; children = firsts s.count (trees_of (drop (i + 1) (recs defs))); earlier = g.first })) or_else others-after) is
 
-      pub listing_flawed : (j : Judged) (f p : ℕ) → j ≡ Flawed f p → ExtractorJudged text t n earlier defs i j → ListJudged text defs j
+      pub listing_flawed : (f : Flaw) → ExtractorJudged text t earlier defs i (Err f) → ListJudged text defs (Err f)
       unfolding table_known
-      listing_flawed (Fine m) f p h q = absurd (let z : ◌≡◌ {A = ℕ} 0 1 = cc in omega arith)
-      listing_flawed (Flawed m l) f p h q = record { gives = ap (◌or_else others-after) (q.gives known) ∙ sym (g.leads ∙ this); low = q.low }
+      listing_flawed f q = record { gives = ap (◌or_else others-after) (q.gives known) ∙ sym (g.leads ∙ this); low = q.low }
 
-      pub listing_after : (j : Judged) (next : ℕ) → j ≡ Fine next → ExtractorJudged text t n earlier defs i j → end - next < end - i
-      listing_after j next e q = omega (arith, q.ends next e, end_more (recs defs) i r spot)
+      pub listing_after : (next : ℕ) → ExtractorJudged text t earlier defs i (Ok next) → end - next < end - i
+      listing_after next q = omega (arith, q.ends next refl, end_more (recs defs) i r spot)
 
-      listing_next : (next : ℕ) → ExtractorJudged text t n earlier defs i (Fine next) → Listing text defs t n (earlier + 1) next
+      pub listing_next : (next : ℕ) → ExtractorJudged text t earlier defs i (Ok next) → Listing text defs t (earlier + 1) next
       unfolding table_known
       listing_next next q =
           let e : next ≡ end_of (recs defs) i = q.ends next refl in
@@ -160,6 +157,3 @@ module _ (text defs t : List ℕ) (n earlier i end : ℕ) (g : Listing text defs
             whole = rw e (whole-next true has_kind);
             leads = g.leads ∙ this ∙ ap (◌or_else others-after) (sym (q.gives known)) ∙ rw e;
           }
-
-      pub listing_on : (j : Judged) (next : ℕ) → j ≡ Fine next → ExtractorJudged text t n earlier defs i j → Listing text defs t n (earlier + 1) next
-      listing_on j next e q = listing_next next (rw e at q)

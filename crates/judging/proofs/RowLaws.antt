@@ -15,6 +15,7 @@ use Rattle.expansion.proofs.SpanLaws.{count-firsts, trees_of-after}
 use Rattle.expansion.proofs.IndexLaws.{all-at}
 use Rattle.expansion.proofs.StoreLaws.{extractor-at}
 use Rattle.grounds.proofs.At.{here}
+use Rattle.judging.specs.declared.table.Entry.{Entry}
 use Rattle.judging.specs.Table.{name_in, arity_in, place_in, RowOf, Rows, Table}
 use Rattle.judging.specs.Judging.{NamedRows, Known}
 
@@ -23,7 +24,7 @@ unfolding trees_of count
 enough_after m s rs l = omega (arith, ap count (trees_of-after rs s.count))
 
 -- what the row x says of its extractor
-pub row_is : (text defs t : List ℕ) (x : ℕ) (e : Named Extractor) → All Placed (recs defs) → RowOf text defs t x e
+pub row_is : (text defs : List ℕ) (t : List Entry) (x : ℕ) (e : Named Extractor) → All Placed (recs defs) → RowOf text defs t x e
     → (e ≡ named (spelled text (name_in t x)) (record {
       params = firsts (arity_in t x) (trees_of (after (drop (place_in t x + 1 + 1) (recs defs)) (rec_at defs (place_in t x + 1)).count));
       pattern = tree_at (trees_of (after (drop (place_in t x + 1 + 1) (recs defs)) (rec_at defs (place_in t x + 1)).count)) (arity_in t x) (node (head_of (rec_at defs (place_in t x + 1))) ∅);
@@ -43,17 +44,17 @@ row_is text defs t x e a r =
     let p : e ≡ named (spelled text second.word1) (record { params = firsts (arity_in t x) (trees_of (after rs second.count)); pattern = tree_at (trees_of (after rs second.count)) (arity_in t x) (node (head_of second) ∅) }) = cc in
     (p ∙ rw r.word, enough_after (arity_in t x) second rs l)
 
-row_named : (text defs t : List ℕ) (x : ℕ) (e : Named Extractor) → All Placed (recs defs) → RowOf text defs t x e → (e.name ≡ spelled text (name_in t x)) × (count e.value.params ≡ arity_in t x)
+row_named : (text defs : List ℕ) (t : List Entry) (x : ℕ) (e : Named Extractor) → All Placed (recs defs) → RowOf text defs t x e → (e.name ≡ spelled text (name_in t x)) × (count e.value.params ≡ arity_in t x)
 row_named text defs t x e a r =
     let p = row_is text defs t x e a r in
     (ap (λ (z : Named Extractor). z.name) p.0, ap (λ (z : Named Extractor). count z.value.params) p.0 ∙ count-firsts (arity_in t x) _ (omega (arith, p.1)))
 
-pub rows_named : (text defs t : List ℕ) (x : ℕ) (E : Extractors) → All Placed (recs defs) → Rows text defs t x E → NamedRows text t x E
+pub rows_named : (text defs : List ℕ) (t : List Entry) (x : ℕ) (E : Extractors) → All Placed (recs defs) → Rows text defs t x E → NamedRows text t x E
 rows_named text defs t x [] a r = tt
 rows_named text defs t x (e ∷ E) a r = let z = row_named text defs t x e a r.0 in (z.0, z.1, rows_named text defs t (suc x) E a r.1)
 
-unfoldable pub table_known : (text defs t : List ℕ) (n m : ℕ) (E F : Extractors) → All Placed (recs defs) → Table text defs t n → extractors text (trees_of (recs defs)) ≡ E ++ F → length E ≡ m → Known text t n m
-table_known text defs t n m E F a b e l =
+unfoldable pub table_known : (text defs : List ℕ) (t : List Entry) (m : ℕ) (E F : Extractors) → All Placed (recs defs) → Table text defs t → extractors text (trees_of (recs defs)) ≡ E ++ F → length E ≡ m → Known text t m
+table_known text defs t m E F a b e l =
     record {
       first = E;
       others = F;

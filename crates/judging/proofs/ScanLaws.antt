@@ -18,8 +18,11 @@ use Rattle.expansion.proofs.IndexLaws.{all-at}
 use Rattle.grounds.specs.Stages.{first_from, marks, marks_all}
 use Rattle.grounds.proofs.FirstLaws.{flaw_here, flaw_next}
 use Rattle.grounds.proofs.At.{here, past, length-recs}
-use Rattle.judging.specs.declared.Judged.TheVariants.{Fine, Flawed}
-use Rattle.judging.specs.Judging.{Low, MarkedAt, Scanned}
+use Rattle.std.specs.Prelude.{Option as Maybe, Some, None, Ok, Err}
+use Rattle.records.specs.declared.Ground.{Ground}
+use Rattle.records.specs.Grounds.{number}
+use Rattle.judging.proofs.GivenLaws.{number_some}
+use Rattle.judging.specs.Judging.{flaw, mark_of, Low, MarkedAt, Scanned}
 
 -- ---- trees that are still to be read
 
@@ -71,7 +74,7 @@ pub scanning_start : {A : Type 0} (f : A → Head → Trees → ℕ) (src : List
 scanning_start f src at trees l a h = record { few = l; placed = a; there = h; ends = refl; leads = λ x. refl }
 
 module _ {A : Type 0} (f : A → Head → Trees → ℕ) (src : List ℕ) (at trees todo k : ℕ) (g : Scanning f src at trees todo k) where
-  pub scanning_end : todo ≤ 0 → Scanned f src at trees (Fine k)
+  pub scanning_end : todo ≤ 0 → Scanned f src at trees (Ok k)
   unfolding Low firsts marks first_from
   scanning_end h =
       let z : todo ≡ 0 = omega arith in
@@ -90,11 +93,11 @@ module _ {A : Type 0} (f : A → Head → Trees → ℕ) (src : List ℕ) (at tr
   pub scanning_less : 0 < todo → slots src - (k + 1) < slots src - k
   scanning_less h = omega (arith, scanning_inside h)
 
-  module _ (y : ℕ) (judged : MarkedAt f src k y) (more : 0 < todo) where
+  module _ (found : Maybe Ground) (judged : MarkedAt f src k (mark_of found)) (more : 0 < todo) where
     split : drop k (recs src) ≡ rec_at src k ∷ drop (k + 1) (recs src)
     split = here src k (scanning_inside more)
 
-    mark : (x : A) → marks_all (f x) (firsts todo (trees_of (drop k (recs src)))) ≡ y ∷ marks_all (f x) (firsts (todo - 1 + (rec_at src k).count) (trees_of (drop (k + 1) (recs src))))
+    mark : (x : A) → marks_all (f x) (firsts todo (trees_of (drop k (recs src)))) ≡ mark_of found ∷ marks_all (f x) (firsts (todo - 1 + (rec_at src k).count) (trees_of (drop (k + 1) (recs src))))
     unfolding MarkedAt
     mark x =
         let m : todo ≡ suc (todo - 1) = omega arith in
@@ -104,16 +107,16 @@ module _ {A : Type 0} (f : A → Head → Trees → ℕ) (src : List ℕ) (at tr
         ∙ marks_step (f x) (rec_at src k) (drop (k + 1) (recs src)) (todo - 1)
         ∙ rw (← (judged x), c)
 
-    pub scanning_flawed : (y ≡ 0 → ⊥) → Scanned f src at trees (Flawed y k)
+    pub scanning_flawed : (y : Ground) → found ≡ Some y → Scanned f src at trees (Err (flaw y k))
     unfolding Low
-    scanning_flawed z =
+    scanning_flawed y is =
         record {
-          gives = λ x. sym (g.leads x ∙ ap (first_from k) (mark x) ∙ flaw_here k y _ (omega arith));
+          gives = λ x. sym (g.leads x ∙ ap (first_from k) (mark x) ∙ rw is (flaw_here k (number y) _ (number_some y)));
           low = scanning_inside more;
           ends = λ m e. absurd (let u : ◌≡◌ {A = ℕ} 0 1 = cc in omega arith);
         }
 
-    pub scanning_next : (r : Rec) → r ≡ rec_at src k → y ≡ 0 → Scanning f src at trees (todo - 1 + r.count) (k + 1)
+    pub scanning_next : (r : Rec) → r ≡ rec_at src k → found ≡ None → Scanning f src at trees (todo - 1 + r.count) (k + 1)
     unfolding span
     scanning_next r is z =
         record {
@@ -125,5 +128,5 @@ module _ {A : Type 0} (f : A → Head → Trees → ℕ) (src : List ℕ) (at tr
               let c : (rec_at src k).count + (todo - 1) ≡ todo - 1 + r.count = rw is (omega arith) in
               let s : span (drop k (recs src)) todo ≡ suc (span (drop (k + 1) (recs src)) (todo - 1 + r.count)) = ap (span (drop k (recs src))) m ∙ ap (λ (rs : List Rec). span rs (suc (todo - 1))) split ∙ rw c in
               omega (arith, g.ends);
-          leads = λ x. g.leads x ∙ ap (first_from k) (mark x) ∙ flaw_next k y _ z ∙ rw (add-one k, is);
+          leads = λ x. g.leads x ∙ ap (first_from k) (mark x) ∙ flaw_next k (mark_of found) _ (ap mark_of z) ∙ rw (add-one k, is);
         }

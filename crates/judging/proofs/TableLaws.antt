@@ -2,12 +2,12 @@
 use mathlib.Core.Path.{◌≡◌, refl, sym, ap, ◌∙◌}
 use mathlib.Core.Bool.{Bool, true, false}
 use mathlib.Core.List.{List, [], ◌∷◌, ◌++◌, append_assoc, append-nil}
-use Prim.Native.Nat.{ℕ, suc, ◌+◌, ◌-◌, ◌*◌, ◌<◌, ◌≤◌}
+use Prim.Native.Nat.{ℕ, suc, ◌+◌, ◌-◌, ◌<◌, ◌≤◌}
 use native.Mathlib.Nat.{add-zero}
-use native.Mathlib.Numerals.{add-one}
 use native.Mathlib.Omega.{arith}
-use lib.ListN.{length, get_or, set, drop, length-set, length-append}
+use lib.ListN.{length, get_or, set, take, drop, length-set, length-append}
 use lib.Seq.{get_or-set_same, get_or-set_other}
+use Rattle.std.proofs.lemmas.List.{get_or-take, length-take-le}
 use borrow.Author.Tests.{eq-eqb, ne_eqb, lt-ltb, le-ltb}
 use Rattle.trees.specs.Choice.{pick}
 use Rattle.trees.specs.declared.Rec.{Rec}
@@ -21,11 +21,13 @@ use Rattle.expansion.specs.Expansion.{Named, named, Extractor, Extractors, extra
 use Rattle.expansion.specs.Flat.{after, end_of, Placed, All}
 use Rattle.expansion.proofs.IndexLaws.{all-at}
 use Rattle.expansion.proofs.StoreLaws.{extractor-at}
-use Rattle.judging.specs.declared.Judged.TheVariants.{Fine, Flawed}
+use Rattle.std.specs.Prelude.{Ok, Err}
+use Rattle.records.specs.declared.Ground.TheVariants.{TooManyExtractors}
 use Rattle.grounds.specs.Stages.{first_from}
 use Rattle.grounds.specs.Order.{extractor_places}
-use Rattle.judging.specs.Table.{name_in, arity_in, place_in, looked, RowOf, Rows, RowRoom}
-use Rattle.judging.specs.Judging.{Low}
+use Rattle.judging.specs.declared.table.Entry.{Entry}
+use Rattle.judging.specs.Table.{row, name_in, arity_in, place_in, RowOf, Rows, entry_of, RowRoom}
+use Rattle.judging.specs.Judging.{flaw, Low}
 use Rattle.judging.specs.Whole.{DefinitionsShaped, Tabled}
 use Rattle.grounds.proofs.At.{here, past, length-recs, skip-end, kids_at, trees-at, end_more, end-upto, tree-size, two-children, second-there}
 
@@ -34,31 +36,13 @@ use Rattle.grounds.proofs.At.{here, past, length-recs, skip-end, kids_at, trees-
 pub names_same : (text x y : List ℕ) (a b : ℕ) (r : Bool) → x ≡ spelled text a → y ≡ spelled text b → r ≡ same_bytes x y → r ≡ same_bytes (spelled text a) (spelled text b)
 names_same text x y a b r p q e = e ∙ rw (p, q)
 
-pub look_start : (text t : List ℕ) (w n : ℕ) → looked text t w 0 (n - 0) ≡ looked text t w 0 n
-look_start text t w n = let e : n - 0 ≡ n = omega arith in rw e
-
-module _ (text t : List ℕ) (w n x : ℕ) (r : Bool) (e : r ≡ same_bytes (spelled text w) (spelled text (name_in t x))) (inv : looked text t w x (n - x) ≡ looked text t w 0 n) (h : x < n) where
-  look_turn : looked text t w 0 n ≡ pick r x (looked text t w (x + 1) (n - (x + 1)))
-  unfolding looked
-  look_turn = let m : n - x ≡ suc (n - (x + 1)) = omega arith in sym inv ∙ rw (m, e, add-one x)
-
-  pub look_here : r ≡ true → x ≡ looked text t w 0 n
-  look_here q = sym (look_turn ∙ rw q)
-
-  pub look_next : r ≡ false → looked text t w (x + 1) (n - (x + 1)) ≡ looked text t w 0 n
-  look_next q = sym (look_turn ∙ rw q)
-
-pub look_end : (text t : List ℕ) (w n x : ℕ) → looked text t w x (n - x) ≡ looked text t w 0 n → n ≤ x → x ≡ looked text t w 0 n
-unfolding looked
-look_end text t w n x inv h = let m : n - x ≡ 0 = omega arith in (rw m at inv)
-
 -- ---- rows are kept where the table is, and one more is added
 
-row_keep : (text defs t t' : List ℕ) (x : ℕ) (e : Named Extractor) → name_in t' x ≡ name_in t x → arity_in t' x ≡ arity_in t x → place_in t' x ≡ place_in t x → RowOf text defs t x e → RowOf text defs t' x e
+row_keep : (text defs : List ℕ) (t t' : List Entry) (x : ℕ) (e : Named Extractor) → name_in t' x ≡ name_in t x → arity_in t' x ≡ arity_in t x → place_in t' x ≡ place_in t x → RowOf text defs t x e → RowOf text defs t' x e
 row_keep text defs t t' x e p q s r =
     record { there = rw s r.there; kind = rw s r.kind; word = p ∙ rw s r.word; size = rw (q, s) r.size; is = rw s r.is }
 
-rows-add : (text defs t t' : List ℕ) (x : ℕ) (E : Extractors) (e : Named Extractor)
+rows-add : (text defs : List ℕ) (t t' : List Entry) (x : ℕ) (E : Extractors) (e : Named Extractor)
     → ((y : ℕ) → y < x + length E → (name_in t' y ≡ name_in t y) × (arity_in t' y ≡ arity_in t y) × (place_in t' y ≡ place_in t y))
     → RowOf text defs t' (x + length E) e → Rows text defs t x E → Rows text defs t' x (E ++ (e ∷ []))
 rows-add text defs t t' x [] e k r o = (rw (add-zero x) at r, tt)
@@ -69,31 +53,35 @@ rows-add text defs t t' x (f ∷ E) e k r o =
 
 -- ---- making the table
 
-pub row_added : (defs t t' : List ℕ) (n i : ℕ) (r s : Rec) → r ≡ rec_at defs i → s ≡ rec_at defs (i + 1) → t' ≡ set (set (set t (3 * n) s.word1) (3 * n + 1) (r.count - 2)) (3 * n + 2) i
-    → t' ≡ set (set (set t (3 * n) (rec_at defs (i + 1)).word1) (3 * n + 1) ((rec_at defs i).count - 2)) (3 * n + 2) i
-row_added defs t t' n i r s p q e = e ∙ rw (p, q)
+-- ---- the first rows of a table
 
-pub count_by : (defs : List ℕ) (i m : ℕ) (r : Rec) → r ≡ rec_at defs i → m ≤ (rec_at defs i).count → m ≤ r.count
-count_by defs i m r e h = rw e h
+row_first : (t : List Entry) (n y : ℕ) → y < n → row (take n t) y ≡ row t y
+row_first t n y h = get_or-take n t y (record { name = 0; arity = 0; place = 0 }) h
 
-pub record Making (defs t₀ t : List ℕ) (n i : ℕ) : Type 0 where
+rows_first : (text defs : List ℕ) (t : List Entry) (n x : ℕ) (E : Extractors) → x + length E ≤ n → Rows text defs t x E → Rows text defs (take n t) x E
+rows_first text defs t n x [] h r = tt
+rows_first text defs t n x (e ∷ E) h r =
+    let q : row (take n t) x ≡ row t x = row_first t n x (omega arith) in
+    (row_keep text defs t (take n t) x e (ap (λ (z : Entry). z.name) q) (ap (λ (z : Entry). z.arity) q) (ap (λ (z : Entry). z.place) q) r.0, rows_first text defs t n (suc x) E (omega arith) r.1)
+
+pub record Making (defs : List ℕ) (t₀ t : List Entry) (n i : ℕ) : Type 0 where
   pub shape : DefinitionsShaped defs
   pub same : length t ≡ length t₀
   pub few : n ≤ 256
   pub upto : i ≤ slots defs
-  pub long : 768 ≤ length t
+  pub long : 256 ≤ length t
   pub places : (ps : List ℕ) × (length ps ≡ n) × (extractor_places 0 (trees_of (recs defs)) ≡ ps ++ extractor_places i (trees_of (drop i (recs defs))))
   pub rows : (text : List ℕ) → (E : Extractors) × (length E ≡ n) × (extractors text (trees_of (recs defs)) ≡ E ++ extractors text (trees_of (drop i (recs defs)))) × Rows text defs t 0 E
 
-pub making-start : (defs t : List ℕ) → DefinitionsShaped defs → 768 ≤ length t → Making defs t t 0 0
+pub making-start : (defs : List ℕ) (t : List Entry) → DefinitionsShaped defs → 256 ≤ length t → Making defs t t 0 0
 making-start defs t d l =
     record { shape = d; same = refl; few = omega arith; upto = omega arith; long = l; places = ([], refl, refl); rows = λ text. ([], refl, refl, tt) }
 
-module _ (defs t₀ t : List ℕ) (n i end : ℕ) (g : Making defs t₀ t n i) (all : end ≡ slots defs) where
+module _ (defs : List ℕ) (t₀ t : List Entry) (n i end : ℕ) (g : Making defs t₀ t n i) (all : end ≡ slots defs) where
   a : All Placed (recs defs)
   a = g.shape.placed
 
-  pub making-end : end ≤ i → Tabled defs t (Fine n)
+  pub making-end : end ≤ i → Tabled defs t (Ok n)
   unfolding Low first_from extractor_places extractors trees_of
   making-end h =
       let z : drop i (recs defs) ≡ [] = past defs i (omega arith) in
@@ -101,11 +89,13 @@ module _ (defs t₀ t : List ℕ) (n i end : ℕ) (g : Making defs t₀ t n i) (
       let few : length (extractor_places 0 (trees_of (recs defs))) ≤ 256 = rw (p.2, z, append-nil) (omega (arith, p.1, g.few)) in
       record {
         answers = record { gives = rw (le-ltb 256 (length (extractor_places 0 (trees_of (recs defs)))) few); low = tt };
+        within = λ m q. let c : n ≡ m = cc in omega (arith, g.few, g.long);
         table = λ m q text.
             let r = g.rows text in
             let e : extractors text (trees_of (recs defs)) ≡ r.0 = r.2 ∙ rw (z, append-nil) in
             let c : n ≡ m = cc in
-            rw (← c) (record { rows = rw e r.3; size = rw e r.1; few = g.few; long = g.long });
+            let l : length (take n t) ≡ n = length-take-le n t (omega (arith, g.few, g.long)) in
+            rw (← c) (record { rows = rw e (rows_first text defs t n 0 r.0 (omega (arith, r.1)) r.3); size = rw e (r.1 ∙ sym l); few = omega (arith, l, g.few) });
       }
 
   module _ (r : Rec) (is : r ≡ rec_at defs i) (more : i < end) where
@@ -149,7 +139,7 @@ module _ (defs t₀ t : List ℕ) (n i end : ℕ) (g : Making defs t₀ t n i) (
           rows = λ text. let s = g.rows text in (s.0, s.1, s.2 ∙ ap (s.0 ++◌) (extractors-next false (other k) text), s.3);
         })
 
-    pub making-many : r.kind ≡ 19 → n ≡ 256 → Tabled defs t (Flawed 33 i)
+    pub making-many : r.kind ≡ 19 → n ≡ 256 → Tabled defs t (Err (flaw TooManyExtractors i))
     unfolding Low first_from
     making-many k m =
         let p = g.places in
@@ -158,6 +148,7 @@ module _ (defs t₀ t : List ℕ) (n i end : ℕ) (g : Making defs t₀ t n i) (
         let v : get_or (extractor_places 0 (trees_of (recs defs))) 256 0 ≡ i = rw q (at-end p.0 i (extractor_places (end_of (recs defs) i) (trees_of (drop (end_of (recs defs) i) (recs defs)))) 256 (p.1 ∙ m)) in
         record {
           answers = record { gives = rw (lt-ltb 256 (length (extractor_places 0 (trees_of (recs defs)))) l, v); low = omega arith };
+          within = λ m q. absurd (let u : ◌≡◌ {A = ℕ} 0 1 = cc in omega arith);
           table = λ m q. absurd (let u : ◌≡◌ {A = ℕ} 0 1 = cc in omega arith);
         }
       where
@@ -172,8 +163,11 @@ module _ (defs t₀ t : List ℕ) (n i end : ℕ) (g : Making defs t₀ t n i) (
       making-second : i + 1 < slots defs
       making-second = second-there defs i r is (omega arith) g.shape.extractors-placed k
 
-      pub making-row : (n ≡ 256 → ⊥) → RowRoom defs t n i
-      making-row m = record { second = making-second; two = rw (← is) making-two; room = omega (arith, g.few, g.long) }
+      pub making-row : RowRoom defs i
+      making-row = record { second = making-second; two = rw (← is) making-two }
+
+      pub making-room : (n ≡ 256 → ⊥) → n < length t
+      making-room m = omega (arith, g.few, g.long)
 
       abbrev second : Rec
       second = rec_at defs (i + 1)
@@ -192,30 +186,24 @@ module _ (defs t₀ t : List ℕ) (n i end : ℕ) (g : Making defs t₀ t n i) (
                 ∙ extractor-at text (r.count - 2) second (drop (i + 1 + 1) (recs defs)) (node (head_of r) ∅) l,
           )
 
-      module _ (t' : List ℕ) (was : t' ≡ set (set (set t (3 * n) second.word1) (3 * n + 1) ((rec_at defs i).count - 2)) (3 * n + 2) i) (m : n ≡ 256 → ⊥) where
-        space : 3 * n + 3 ≤ length t
-        space = omega (arith, g.few, g.long)
+      module _ (v : Entry) (made : v ≡ entry_of defs i) (m : n ≡ 256 → ⊥) where
+        abbrev t' : List Entry
+        t' = set t n v
 
-        added : t' ≡ set (set (set t (3 * n) second.word1) (3 * n + 1) (r.count - 2)) (3 * n + 2) i
-        added = rw is was
+        other_row : (y : ℕ) → y < n → row t' y ≡ row t y
+        other_row y h = get_or-set_other t n y v (record { name = 0; arity = 0; place = 0 }) (λ z. omega arith)
 
-        other_cell : (y : ℕ) → (y ≡ 3 * n → ⊥) → (y ≡ 3 * n + 1 → ⊥) → (y ≡ 3 * n + 2 → ⊥) → get_or t' y 0 ≡ get_or t y 0
-        other_cell y p q s =
-            rw added (get_or-set_other (set (set t (3 * n) second.word1) (3 * n + 1) (r.count - 2)) (3 * n + 2) y i 0 s
-            ∙ get_or-set_other (set t (3 * n) second.word1) (3 * n + 1) y (r.count - 2) 0 q ∙ get_or-set_other t (3 * n) y second.word1 0 p)
+        this-row : row t' n ≡ record { name = second.word1; arity = r.count - 2; place = i }
+        this-row = get_or-set_same t n v (record { name = 0; arity = 0; place = 0 }) (making-room m) ∙ made ∙ rw is
 
         name_cell : name_in t' n ≡ second.word1
-        name_cell =
-            rw added (get_or-set_other (set (set t (3 * n) second.word1) (3 * n + 1) (r.count - 2)) (3 * n + 2) (3 * n) i 0 (λ z. omega arith)
-            ∙ get_or-set_other (set t (3 * n) second.word1) (3 * n + 1) (3 * n) (r.count - 2) 0 (λ z. omega arith) ∙ get_or-set_same t (3 * n) second.word1 0 (omega arith))
+        name_cell = ap (λ (z : Entry). z.name) this-row
 
         arity_cell : arity_in t' n ≡ r.count - 2
-        arity_cell =
-            rw added (get_or-set_other (set (set t (3 * n) second.word1) (3 * n + 1) (r.count - 2)) (3 * n + 2) (3 * n + 1) i 0 (λ z. omega arith)
-            ∙ get_or-set_same (set t (3 * n) second.word1) (3 * n + 1) (r.count - 2) 0 (simp length-set (omega arith)))
+        arity_cell = ap (λ (z : Entry). z.arity) this-row
 
         place_cell : place_in t' n ≡ i
-        place_cell = rw added (get_or-set_same (set (set t (3 * n) second.word1) (3 * n + 1) (r.count - 2)) (3 * n + 2) i 0 (simp length-set (omega arith)))
+        place_cell = ap (λ (z : Entry). z.place) this-row
 
         new_row : (text : List ℕ) (e : Named Extractor) → extractor text (kids_at (recs defs) i r at) ≡ e ∷ [] → RowOf text defs t' n e
         new_row text e q =
@@ -229,9 +217,9 @@ module _ (defs t₀ t : List ℕ) (n i end : ℕ) (g : Making defs t₀ t n i) (
             }
 
         pub making_same : length t' ≡ length t₀
-        making_same = rw added (simp length-set g.same)
+        making_same = length-set t n v ∙ g.same
 
-        pub making-next : (j : ℕ) → j ≡ i + skip 1 (left defs i) → Making defs t₀ t' (n + 1) j
+        pub making-next : (j : ℕ) → j ≡ i + skip 1 (left defs i) → Making defs t₀ (set t n v) (n + 1) j
         making-next j e =
             let q : j ≡ end_of (recs defs) i = skip-end defs i j e in
             let p = g.places in
@@ -240,7 +228,7 @@ module _ (defs t₀ t : List ℕ) (n i end : ℕ) (g : Making defs t₀ t n i) (
               same = making_same;
               few = omega (arith, g.few);
               upto = end_in;
-              long = rw added (simp length-set g.long);
+              long = rw (length-set t n v) g.long;
               places = (p.0 ++ (i ∷ []), length-append p.0 (i ∷ []) ∙ omega (arith, p.1), p.2 ∙ ap (p.0 ++◌) (places-next true (this k)) ∙ sym (append_assoc p.0 (i ∷ []) _));
               rows = λ text.
                   let s = g.rows text in
@@ -251,7 +239,7 @@ module _ (defs t₀ t : List ℕ) (n i end : ℕ) (g : Making defs t₀ t n i) (
                     s.0 ++ (w.0 ∷ []),
                     length-append s.0 (w.0 ∷ []) ∙ omega (arith, s.1),
                     y ∙ sym (append_assoc s.0 (w.0 ∷ []) _),
-                    rows-add text defs t t' 0 s.0 w.0 (λ v h. (other_cell (3 * v) (λ z. omega arith) (λ z. omega arith) (λ z. omega arith), other_cell (3 * v + 1) (λ z. omega arith) (λ z. omega arith) (λ z. omega arith), other_cell (3 * v + 2) (λ z. omega arith) (λ z. omega arith) (λ z. omega arith)))
+                    rows-add text defs t t' 0 s.0 w.0 (λ y h. let o : row t' y ≡ row t y = other_row y (omega arith) in (ap (λ (z : Entry). z.name) o, ap (λ (z : Entry). z.arity) o, ap (λ (z : Entry). z.place) o))
                         (rw len (new_row text w.0 w.1)) s.3,
                   );
             })

@@ -1,55 +1,79 @@
--- What the functions that judge answer: document 01's number and place, or that nothing is wrong and what comes after.
-use Rattle.std.specs.Prelude.{◌≡◌, List, [], ◌++◌, ℕ, ◌+◌, ◌-◌, ◌<◌, ◌≤◌, eqb, ltb, length, drop}
+-- What the functions that judge answer: the ground and the place, or that nothing is wrong and what comes after.
+use Rattle.std.specs.Prelude.{◌≡◌, Option as Maybe, Some, None, Result, Ok, Err, List, [], ◌++◌, ℕ, ◌+◌, ◌-◌, ◌<◌, ◌≤◌, eqb, ltb, length, drop}
 use Rattle.std.proofs.Math.Option.{Option, none, some}
 use Rattle.trees.specs.Choice.{pick}
 use Rattle.trees.specs.declared.Head.{Head}
 use Rattle.trees.specs.Tree.{Trees, count, firsts, head_of, trees_of}
+use Rattle.records.specs.declared.Ground.{Ground}
+use Rattle.records.specs.Grounds.{number}
 use Rattle.records.specs.Slots.{slots, rec_at, recs}
 use Rattle.expansion.specs.Expansion.{Extractors, extractors}
 use Rattle.expansion.specs.Flat.{span, end_of, Placed, All}
 use Rattle.grounds.specs.Stages.{Refusal, refusal, first_from, Stage, found, verdict, in_turn, marks_all}
 use Rattle.grounds.specs.Order.{call_flaw, Site, stages_of, sites}
-use Rattle.judging.specs.declared.Judged.{Judged}
-use Rattle.judging.specs.declared.Judged.TheVariants.{Fine, Flawed}
+use Rattle.judging.specs.declared.Flaw.{Flaw}
+use Rattle.judging.specs.declared.table.Entry.{Entry}
 use Rattle.judging.specs.Table.{arity_in, RowsOf}
 
 -- ---- the number and the place that document 01 gives to each answer; none where nothing is wrong
 
+abbrev pub flaw : Ground → ℕ → Flaw
+flaw g k = record { reason = g; place = k }
+
+-- nothing is wrong up to an index, or as many extractors are fine; or what is wrong
+abbrev pub Judged : Type 0
+Judged = Result ℕ Flaw
+
 abbrev pub given : Judged → Option Refusal
-given (Fine n) = none
-given (Flawed f k) = some (refusal f k)
+given (Ok n) = none
+given (Err e) = some (refusal (number e.reason) e.place)
+
+-- the number of what is wrong with one node, or 0
+abbrev pub mark_of : Maybe Ground → ℕ
+mark_of None = 0
+mark_of (Some g) = number g
 
 -- a place below m
 unfoldable pub Low : ℕ → Judged → Type 0
-Low m (Fine n) = Unit {0}
-Low m (Flawed f k) = k < m
+Low m (Ok n) = Unit {0}
+Low m (Err e) = e.place < m
 
 -- r gives the ground g, its place below m
 pub record Answers (g : Option Refusal) (m : ℕ) (r : Judged) : Type 0 where
   pub gives : given r ≡ g
   pub low : Low m r
 
+-- the answer by the index, if any, of what is wrong in a list, the first record of which has the place d
+abbrev pub judged_at : Maybe ℕ → Ground → ℕ → Judged
+judged_at None g d = Ok 0
+judged_at (Some a) g d = Err (flaw g (d + a))
+
 -- an answer whose place goes on after d records, with n for a fine one
 abbrev pub moved : Judged → ℕ → ℕ → Judged
-moved (Fine m) n d = Fine n
-moved (Flawed f k) n d = Flawed f (d + k)
+moved (Ok m) n d = Ok n
+moved (Err e) n d = Err (flaw e.reason (d + e.place))
 
 -- ---- the extractors of the table
 
 -- the rows from x on have the extractors' names and numbers of parameters
-abbrev pub NamedRows : List ℕ → List ℕ → ℕ → Extractors → Type 0
+abbrev pub NamedRows : List ℕ → List Entry → ℕ → Extractors → Type 0
 NamedRows text t x E = RowsOf (λ y v. count v.params ≡ arity_in t y) text t x E
 
--- the n extractors of the table, the first of which are the earlier ones
-pub record Known (text t : List ℕ) (n earlier : ℕ) : Type 0 where
+-- the extractors of the table, the first of which are the earlier ones
+pub record Known (text : List ℕ) (t : List Entry) (earlier : ℕ) : Type 0 where
   pub first : Extractors
   pub others : Extractors
   pub rows : NamedRows text t 0 (first ++ others)
   pub sized : length first ≡ earlier
-  pub all : length first + length others ≡ n
+  pub all : length first + length others ≡ length t
 
-abbrev pub known_all : {text t : List ℕ} {n earlier : ℕ} → Known text t n earlier → Extractors
+abbrev pub known_all : {text : List ℕ} {t : List Entry} {earlier : ℕ} → Known text t earlier → Extractors
 known_all x = x.first ++ x.others
+
+-- a list within the limits, each of whose records has its children
+pub record Sound (src : List ℕ) : Type 0 where
+  pub few : slots src ≤ 65536
+  pub placed : All Placed (recs src)
 
 -- ---- a scan, by a number f of each node, whatever x of A is
 
@@ -65,15 +89,16 @@ MarkedAt f src k y = (x : _) → y ≡ f x (head_of (rec_at src k)) (children_at
 pub record Scanned {A : Type 0} (f : A → Head → Trees → ℕ) (src : List ℕ) (at trees : ℕ) (r : Judged) : Type 0 where
   pub gives : (x : A) → given r ≡ first_from at (marks_all (f x) (firsts trees (trees_of (drop at (recs src)))))
   pub low : Low (slots src) r
-  pub ends : (m : ℕ) → r ≡ Fine m → m ≡ at + span (drop at (recs src)) trees
+  pub ends : (m : ℕ) → r ≡ Ok m → m ≡ at + span (drop at (recs src)) trees
 
--- calls, 31 and 32, by whatever the n extractors of the table are
-abbrev pub its_flaw : (text t : List ℕ) (n earlier : ℕ) → Known text t n earlier → Head → Trees → ℕ
-its_flaw text t n earlier x = call_flaw text (known_all x) x.first
+-- calls, 31 and 32, by whatever the extractors of the table are
+abbrev pub its_flaw : (text : List ℕ) (t : List Entry) (earlier : ℕ) → Known text t earlier → Head → Trees → ℕ
+its_flaw text t earlier x = call_flaw text (known_all x) x.first
 
--- a call with c children whose name is looked up to the number x: 31, 32 or 0
-unfoldable pub by_number : List ℕ → ℕ → ℕ → ℕ → ℕ → ℕ
-by_number t n earlier x c = pick (ltb x earlier) (pick (eqb (arity_in t x) (c - 1)) 0 31) (pick (eqb x n) 0 32)
+-- a call with c children by the row that its name is looked up to: 31, 32 or 0
+unfoldable pub by_number : List Entry → ℕ → Maybe ℕ → ℕ → ℕ
+by_number t earlier None c = 0
+by_number t earlier (Some x) c = pick (ltb x earlier) (pick (eqb (arity_in t x) (c - 1)) 0 31) 32
 
 -- ---- an Extractor
 
@@ -90,15 +115,15 @@ abbrev pub site_at : List ℕ → ℕ → Extractors → Site
 site_at defs i E = record { place = i; children = children_at defs i; earlier = E }
 
 -- one of its stages
-pub record StageJudged (S : Extractors → Site → Stage) (text t : List ℕ) (n earlier : ℕ) (defs : List ℕ) (i : ℕ) (r : Judged) : Type 0 where
-  pub gives : (x : Known text t n earlier) → given r ≡ found (S (known_all x) (site_at defs i x.first))
+pub record StageJudged (S : Extractors → Site → Stage) (text : List ℕ) (t : List Entry) (earlier : ℕ) (defs : List ℕ) (i : ℕ) (r : Judged) : Type 0 where
+  pub gives : (x : Known text t earlier) → given r ≡ found (S (known_all x) (site_at defs i x.first))
   pub low : Low (slots defs) r
 
 -- all its stages; a fine answer is where its tree ends
-pub record ExtractorJudged (text t : List ℕ) (n earlier : ℕ) (defs : List ℕ) (i : ℕ) (r : Judged) : Type 0 where
-  pub gives : (x : Known text t n earlier) → given r ≡ verdict (stages_of text (known_all x) (site_at defs i x.first))
+pub record ExtractorJudged (text : List ℕ) (t : List Entry) (earlier : ℕ) (defs : List ℕ) (i : ℕ) (r : Judged) : Type 0 where
+  pub gives : (x : Known text t earlier) → given r ≡ verdict (stages_of text (known_all x) (site_at defs i x.first))
   pub low : Low (slots defs) r
-  pub ends : (m : ℕ) → r ≡ Fine m → m ≡ end_of (recs defs) i
+  pub ends : (m : ℕ) → r ≡ Ok m → m ≡ end_of (recs defs) i
 
 -- ---- a definition list: of each extractor its stages
 

@@ -1,5 +1,5 @@
 -- What judging the definitions once, and then a pattern, promises: the verdict on the whole order.
-use Rattle.std.specs.Prelude.{◌≡◌, List, ℕ, ◌+◌, ◌≤◌}
+use Rattle.std.specs.Prelude.{◌≡◌, Ok, List, ℕ, ◌+◌, ◌≤◌, length, take}
 use Rattle.std.proofs.Math.Option.{Option}
 use Rattle.trees.specs.Tree.{∅, ◌▸◌, trees_of}
 use Rattle.records.specs.Slots.{slots, recs}
@@ -8,11 +8,10 @@ use Rattle.grounds.specs.Stages.{Refusal, ◌or_else◌, found, verdict}
 use Rattle.grounds.specs.Order.{macro_args, too_deeps, too_many, extractor_places, of_definitions, grounds}
 use Rattle.grounds.specs.Opening.{tree_of}
 use Rattle.grounds.specs.Leaves.{ExtractorPlaced}
-use Rattle.judging.specs.declared.Judged.{Judged}
-use Rattle.judging.specs.declared.Judged.TheVariants.{Fine}
 use Rattle.judging.specs.declared.whole.Findings.{Findings}
+use Rattle.judging.specs.declared.table.Entry.{Entry}
 use Rattle.judging.specs.Table.{Table}
-use Rattle.judging.specs.Judging.{Answers}
+use Rattle.judging.specs.Judging.{Judged, Answers}
 
 -- ---- what is known of lent lists that are of their kind and within the limits
 
@@ -29,17 +28,19 @@ pub record PatternShaped (pattern : List ℕ) : Type 0 where
 -- ---- the definitions
 
 -- making the table; a fine answer is how many extractors it holds
-pub record Tabled (defs t : List ℕ) (r : Judged) : Type 0 where
+pub record Tabled (defs : List ℕ) (t : List Entry) (r : Judged) : Type 0 where
   pub answers : Answers (found (too_many (extractor_places 0 (trees_of (recs defs))))) (slots defs) r
-  pub table : (n : ℕ) → r ≡ Fine n → (text : List ℕ) → Table text defs t n
+  pub within : (n : ℕ) → r ≡ Ok n → n ≤ length t
+  pub table : (n : ℕ) → r ≡ Ok n → (text : List ℕ) → Table text defs (take n t)
 
 -- 33, and the extractors' stages; a fine answer is how many extractors the table holds
-pub record OthersJudged (text defs t : List ℕ) (r : Judged) : Type 0 where
+pub record OthersJudged (text defs : List ℕ) (t : List Entry) (r : Judged) : Type 0 where
   pub answers : Answers (verdict (of_definitions text (trees_of (recs defs)))) (slots defs) r
-  pub table : (n : ℕ) → r ≡ Fine n → Table text defs t n
+  pub within : (n : ℕ) → r ≡ Ok n → n ≤ length t
+  pub table : (n : ℕ) → r ≡ Ok n → Table text defs (take n t)
 
 -- all that is found in them, whatever the pattern: 4; 8; the others
-pub record FoundIn (text defs t : List ℕ) (f : Findings) : Type 0 where
+pub record FoundIn (text defs : List ℕ) (t : List Entry) (f : Findings) : Type 0 where
   pub args : Answers (found (macro_args (trees_of (recs defs)) 0)) (slots defs) f.args
   pub deep : Answers (found (too_deeps (trees_of (recs defs)) 0)) (slots defs) f.deep
   pub others : OthersJudged text defs t f.others
@@ -55,6 +56,7 @@ both defs pattern =
     or_else found (too_deeps (trees_of (recs pattern)) (slots defs))
 
 -- all grounds; a fine answer is how many extractors the table holds
-pub record Grounded (text defs pattern t : List ℕ) (r : Judged) : Type 0 where
+pub record Grounded (text defs pattern : List ℕ) (t : List Entry) (r : Judged) : Type 0 where
   pub answers : Answers (grounds text (trees_of (recs defs)) (tree_of (recs pattern))) (slots defs + slots pattern) r
-  pub table : (n : ℕ) → r ≡ Fine n → Table text defs t n
+  pub within : (n : ℕ) → r ≡ Ok n → n ≤ length t
+  pub table : (n : ℕ) → r ≡ Ok n → Table text defs (take n t)

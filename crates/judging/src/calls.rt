@@ -1,78 +1,68 @@
 // 32, 31: the calls in trees.
-ghost use Rattle.std.specs.Prelude.{◌≡◌, ◌-◌, ◌*◌, ◌≤◌, ◌<◌, length, drop};
+ghost use Rattle.std.specs.Prelude.{◌≡◌, ◌≤◌, ◌<◌, length, drop};
 ghost use Rattle.trees.specs.Tree.{count, trees_of};
 ghost use Rattle.records.specs.Slots.{slots, recs};
-ghost use Rattle.expansion.specs.Flat.{All, Placed};
-ghost use Rattle.judging.specs.Judging.{by_number, MarkedAt, Scanned, its_flaw};
+ghost use Rattle.judging.specs.Table.{looked};
+ghost use Rattle.judging.specs.Judging.{Sound, mark_of, by_number, MarkedAt, Scanned, its_flaw};
 
-use crate::Judged;
-use crate::names::look_up;
-use records::rec_at;
+use crate::Flaw;
+use crate::table::{Entry, Extractors};
+use records::{Ground, rec_at};
+use trees::Kind;
 
-// By the number x that a call's name is looked up to: 31 or 32, or 0.
-fn judge_number(table: &[u64], n: usize, earlier: usize, x: usize, count: u16) -> u8
-    requires { (3 * n ≤ length table.now) × (earlier ≤ n) × (x ≤ n) }
-    ensures { result ≡ by_number table.now n earlier x count }
+// What is wrong with a call by the row that its name is looked up to: 31 or 32.
+fn judge_number(rows: &[Entry], earlier: usize, found: Option<usize>, count: u16) -> Option<Ground>
+    requires { earlier ≤ length rows.now }
+    ensures { mark_of result ≡ by_number rows.now earlier found count }
 {
-    if x < earlier {
-        let arity = table[3 * x + 1];
-        if arity == less(count) {
-            return 0;
-        }
-        return 31;
+    let x = found?;
+    if x >= earlier {
+        return Some(Ground::CallOrder);
     }
-    if x == n {
-        return 0;
+    if rows[x].arity == (count as usize).saturating_sub(1) {
+        return None;
     }
-    32
+    Some(Ground::ArgumentCount)
 }
 
-fn less(n: u16) -> u64
-    ensures { result ≡ n - 1 }
-{
-    if n == 0 {
-        return 0;
-    }
-    n as u64 - 1
-}
-
-// The record at the index k as a call, among n extractors of which some are earlier: 31 or 32, or 0.
-fn judge_call(text: &[u8], table: &[u64], n: usize, earlier: usize, src: &[u8], k: usize) -> u8
-    requires { (3 * n ≤ length table.now) × (earlier ≤ n) × (k < slots src.now) × All Placed (recs src.now) }
-    ensures { MarkedAt (its_flaw text.now table.now n earlier) src.now k result }
+// What is wrong with the record at the index k as a call, where some of the extractors are earlier: 31 or 32.
+fn judge_call(known: &Extractors, earlier: usize, src: &[u8], k: usize) -> Option<Ground>
+    requires some_earlier { earlier ≤ length known.now.rows.now }
+    requires inside { k < slots src.now }
+    requires sound { Sound src.now }
+    ensures { MarkedAt (its_flaw known.now.text.now known.now.rows.now earlier) src.now k (mark_of result) }
 {
     let r = rec_at(src, k);
-    if r.kind != 35 {
-        return 0;
+    if r.kind != Kind::PatternTerm as u8 {
+        return None;
     }
     let name = rec_at(src, k + 1);
-    let x = look_up(text, table, n, name.word1);
-    judge_number(table, n, earlier, x, r.count)
+    judge_number(known.rows, earlier, known.look_up(name.word1), r.count)
 }
 
 // The calls in the trees from the index `at` on.
 pub fn judge_calls(
-    text: &[u8],
-    table: &[u64],
-    n: usize,
+    known: &Extractors,
     earlier: usize,
     src: &[u8],
     at: usize,
     trees: usize,
-) -> Judged
-    requires { (3 * n ≤ length table.now) × (earlier ≤ n) × (slots src.now ≤ 65536) × All Placed (recs src.now) × (trees ≤ count (trees_of (drop at (recs src.now)))) }
-    ensures { Scanned (its_flaw text.now table.now n earlier) src.now at trees result }
+) -> Result<usize, Flaw>
+    requires some_earlier { earlier ≤ length known.now.rows.now }
+    requires sound { Sound src.now }
+    requires trees_there { trees ≤ count (trees_of (drop at (recs src.now))) }
+    ensures { Scanned (its_flaw known.now.text.now known.now.rows.now earlier) src.now at trees result }
 {
     let mut todo = trees;
     let mut k = at;
+    // Kept: each record changes how many trees are left, so that no range or chain of iterators says when to stop.
     while todo > 0 {
-        let f = judge_call(text, table, n, earlier, src, k);
-        if f != 0 {
-            return Judged::Flawed(f, k);
+        if let Some(reason) = judge_call(known, earlier, src, k) {
+            return Err(Flaw { reason, place: k });
         }
         let r = rec_at(src, k);
         todo = todo - 1 + r.count as usize;
         k += 1;
     }
-    Judged::Fine(k)
+    Ok(k)
 }

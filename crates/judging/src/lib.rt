@@ -7,9 +7,11 @@ pub mod names;
 pub mod table;
 pub mod whole;
 
-// Nothing is wrong up to an index, or as many extractors are fine; or document 01's number of a refusal and its place.
-#[derive(Clone, Copy)]
-pub enum Judged {
-    Fine(usize),
-    Flawed(u8, usize),
+use records::Ground;
+
+// What is wrong first: on which ground a call is refused, and at which place.
+#[derive(Clone, Copy, Debug, PartialEq, Eq)]
+pub struct Flaw {
+    pub reason: Ground,
+    pub place: usize,
 }

@@ -1,52 +1,99 @@
-// The table of extractors, three numbers to a row: the name's range, the number of parameters, the place of the Extractor.
-ghost use Rattle.std.specs.Prelude.{◌≡◌, ◌+◌, ◌-◌, ◌*◌, ◌<◌, ◌≤◌, length, set};
-ghost use Rattle.records.specs.Slots.{slots, rec_at};
-ghost use Rattle.judging.specs.Table.{RowRoom};
+// The table of extractors: the range of the name, the number of parameters and the place of each.
+ghost use Rattle.std.specs.Prelude.{◌≡◌, ◌≤◌, length, take};
+ghost use Rattle.judging.specs.Table.{looked, entry_of, RowRoom};
 ghost use Rattle.judging.specs.Whole.{DefinitionsShaped, Tabled};
 
-use crate::Judged;
+use crate::Flaw;
+use crate::names::same_name;
 use forms::scans::skip;
-use records::{rec_at, slots};
+use records::{Ground, rec_at, slots};
+use trees::Kind;
 
-fn add_row(table: &mut [u64], n: usize, name: u64, arity: u64, place: u64)
-    requires { 3 * n + 3 ≤ length table.old }
-    ensures { table.new ≡ set (set (set table.old (3 * n) name) (3 * n + 1) arity) (3 * n + 2) place }
-{
-    table[3 * n] = name;
-    table[3 * n + 1] = arity;
-    table[3 * n + 2] = place;
+#[derive(Clone, Copy)]
+pub struct Entry {
+    pub name: u64,
+    pub arity: usize,
+    pub place: usize,
+}
+
+// The most extractors that a definition list may have.
+pub const MOST: usize = 256;
+
+// A table of none, with room for all.
+pub const EMPTY: [Entry; MOST] = [Entry {
+    name: 0,
+    arity: 0,
+    place: 0,
+}; MOST];
+
+// Extractors, and the text that their names stand in.
+#[derive(Clone, Copy)]
+pub struct Extractors<'a> {
+    pub text: &'a [u8],
+    pub rows: &'a [Entry],
+}
+
+impl<'a> Extractors<'a> {
+    // The first n of a table.
+    pub fn first_of(text: &'a [u8], table: &'a [Entry], n: usize) -> Extractors<'a>
+        requires { n ≤ length table.now }
+        ensures same_text { result.text.now ≡ text.now }
+        ensures first_rows { result.rows.now ≡ take n table.now }
+    {
+        Extractors {
+            text,
+            rows: &table[..n],
+        }
+    }
+
+    // The number of the first that has the name w.
+    #[tactic(auto, unfolding(crate::specs::Table::looked))]
+    pub fn look_up(&self, w: u64) -> Option<usize>
+        ensures { result ≡ looked self.now.text.now self.now.rows.now w }
+    {
+        self.rows
+            .iter()
+            .position(|row| same_name(self.text, w, row.name))
+    }
 }
 
 // The row of the Extractor at the index i.
-fn add_extractor(defs: &[u8], table: &mut [u64], n: usize, i: usize)
-    requires { RowRoom defs.now table.old n i }
-    ensures { table.new ≡ set (set (set table.old (3 * n) (rec_at defs.now (i + 1)).word1) (3 * n + 1) ((rec_at defs.now i).count - 2)) (3 * n + 2) i }
+fn entry_at(defs: &[u8], i: usize) -> Entry
+    requires { RowRoom defs.now i }
+    ensures { result ≡ entry_of defs.now i }
 {
-    let r = rec_at(defs, i);
-    let name = rec_at(defs, i + 1);
-    add_row(table, n, name.word1, r.count as u64 - 2, i as u64);
+    Entry {
+        name: rec_at(defs, i + 1).word1,
+        arity: rec_at(defs, i).count as usize - 2,
+        place: i,
+    }
 }
 
 // Fills the table with the extractors of a definition list: their number, or 33 at the 257th.
-pub fn make_table(defs: &[u8], table: &mut [u64]) -> Judged
-    requires { DefinitionsShaped defs.now × (768 ≤ length table.old) }
+pub fn make_table(defs: &[u8], table: &mut [Entry]) -> Result<usize, Flaw>
+    requires definitions { DefinitionsShaped defs.now }
+    requires room { MOST ≤ length table.old }
     ensures { Tabled defs.now table.new result }
 {
     let end = slots(defs);
     let mut n = 0;
     let mut i = 0;
+    // Kept: the index goes on by whole trees; an iterator of trees would hold this same loop.
     while i < end {
         let r = rec_at(defs, i);
-        if r.kind != 19 {
+        if r.kind != Kind::Extractor as u8 {
             i = skip(defs, i, 1);
             continue;
         }
-        if n == 256 {
-            return Judged::Flawed(33, i);
+        if n == MOST {
+            return Err(Flaw {
+                reason: Ground::TooManyExtractors,
+                place: i,
+            });
         }
-        add_extractor(defs, table, n, i);
+        table[n] = entry_at(defs, i);
         n += 1;
         i = skip(defs, i, 1);
     }
-    Judged::Fine(n)
+    Ok(n)
 }

@@ -1,70 +1,76 @@
 // The whole order: what is found in the definitions, once, and in a pattern after them.
-ghost use Rattle.std.specs.Prelude.{◌≡◌, ◌+◌, ◌≤◌, length};
+ghost use Rattle.std.specs.Prelude.{◌≡◌, ◌+◌, ◌≤◌, ◌<◌, length, IfSome};
 ghost use Rattle.trees.specs.Tree.{trees_of};
 ghost use Rattle.records.specs.Slots.{slots, recs};
-ghost use Rattle.expansion.specs.Flat.{All, Placed};
 ghost use Rattle.grounds.specs.Stages.{found};
 ghost use Rattle.grounds.specs.Order.{macro_args, too_deeps};
-ghost use Rattle.judging.specs.Judging.{Answers, Low, moved};
+ghost use Rattle.judging.specs.Judging.{Sound, judged_at, Answers, Low, moved};
 ghost use Rattle.judging.specs.Whole.{DefinitionsShaped, PatternShaped, OthersJudged, FoundIn, both, Grounded};
 
-use crate::Judged;
+use crate::Flaw;
 use crate::calls::judge_calls;
 use crate::extractors::judge_definitions;
-use crate::table::make_table;
+use crate::table::{Entry, Extractors, MOST, make_table};
 use forms::depth::first_deep;
 use forms::scans::first_macro_arg;
-use records::slots;
+use records::{Ground, slots};
 
 // What is found in the definitions, whatever the pattern: 4; 8; and 33 or the first of the extractors' stages, or their number.
 #[derive(Clone, Copy)]
 pub struct Findings {
-    pub args: Judged,
-    pub deep: Judged,
-    pub others: Judged,
+    pub args: Result<usize, Flaw>,
+    pub deep: Result<usize, Flaw>,
+    pub others: Result<usize, Flaw>,
+}
+
+// What is wrong at the index found, where there is one, in a list whose first record has the place d.
+fn judge_index(found: Option<usize>, reason: Ground, d: usize) -> Result<usize, Flaw>
+    requires few { IfSome found (λ a. a < 65536) }
+    requires place_small { d ≤ 65536 }
+    ensures { result ≡ judged_at found reason d }
+{
+    match found {
+        Some(a) => Err(Flaw {
+            reason,
+            place: d + a,
+        }),
+        None => Ok(0),
+    }
 }
 
 // 4: the first MacroArg of a list whose first record has the place d.
-fn judge_args(src: &[u8], d: usize) -> Judged
-    requires { (slots src.now ≤ 65536) × (d ≤ 65536) × All Placed (recs src.now) }
+fn judge_args(src: &[u8], d: usize) -> Result<usize, Flaw>
+    requires sound { Sound src.now }
+    requires place_small { d ≤ 65536 }
     ensures { Answers (found (macro_args (trees_of (recs src.now)) d)) (d + slots src.now) result }
 {
-    if let Some(a) = first_macro_arg(src) {
-        return Judged::Flawed(4, d + a);
-    }
-    Judged::Fine(0)
+    judge_index(first_macro_arg(src), Ground::MacroArg, d)
 }
 
 // 8: the first pattern or expression at depth 65.
-fn judge_deep(src: &[u8], d: usize) -> Judged
-    requires { (slots src.now ≤ 65536) × (d ≤ 65536) × All Placed (recs src.now) }
+fn judge_deep(src: &[u8], d: usize) -> Result<usize, Flaw>
+    requires sound { Sound src.now }
+    requires place_small { d ≤ 65536 }
     ensures { Answers (found (too_deeps (trees_of (recs src.now)) d)) (d + slots src.now) result }
 {
-    if let Some(a) = first_deep(src) {
-        return Judged::Flawed(8, d + a);
-    }
-    Judged::Fine(0)
+    judge_index(first_deep(src), Ground::TooDeep, d)
 }
 
 // 33, then the extractors: their number, which the table then holds, or the refusal.
-fn judge_others(text: &[u8], defs: &[u8], table: &mut [u64]) -> Judged
-    requires { DefinitionsShaped defs.now × (768 ≤ length table.old) }
+fn judge_others(text: &[u8], defs: &[u8], table: &mut [Entry]) -> Result<usize, Flaw>
+    requires definitions { DefinitionsShaped defs.now }
+    requires room { MOST ≤ length table.old }
     ensures { OthersJudged text.now defs.now table.new result }
 {
-    let t = make_table(defs, table);
-    let Judged::Fine(n) = t else {
-        return t;
-    };
-    let j = judge_definitions(text, table, n, defs);
-    let Judged::Fine(_) = j else {
-        return j;
-    };
-    Judged::Fine(n)
+    let n = make_table(defs, table)?;
+    judge_definitions(&Extractors::first_of(text, table, n), defs)?;
+    Ok(n)
 }
 
 // The definitions, once.
-pub fn judge_once(text: &[u8], defs: &[u8], table: &mut [u64]) -> Findings
-    requires { DefinitionsShaped defs.now × (768 ≤ length table.old) }
+pub fn judge_once(text: &[u8], defs: &[u8], table: &mut [Entry]) -> Findings
+    requires definitions { DefinitionsShaped defs.now }
+    requires room { MOST ≤ length table.old }
     ensures { FoundIn text.now defs.now table.new result }
 {
     let args = judge_args(defs, 0);
@@ -78,49 +84,55 @@ pub fn judge_once(text: &[u8], defs: &[u8], table: &mut [u64]) -> Findings
 }
 
 // 4 of both lists, then 8 of both.
-fn judge_both(defs: &[u8], pattern: &[u8], args: Judged, deep: Judged) -> Judged
-    requires { DefinitionsShaped defs.now × PatternShaped pattern.now × Answers (found (macro_args (trees_of (recs defs.now)) 0)) (slots defs.now) args × Answers (found (too_deeps (trees_of (recs defs.now)) 0)) (slots defs.now) deep }
+fn judge_both(
+    defs: &[u8],
+    pattern: &[u8],
+    args: Result<usize, Flaw>,
+    deep: Result<usize, Flaw>,
+) -> Result<usize, Flaw>
+    requires definitions { DefinitionsShaped defs.now }
+    requires one_pattern { PatternShaped pattern.now }
+    requires args_answer { Answers (found (macro_args (trees_of (recs defs.now)) 0)) (slots defs.now) args }
+    requires deep_answer { Answers (found (too_deeps (trees_of (recs defs.now)) 0)) (slots defs.now) deep }
     ensures { Answers (both defs.now pattern.now) (slots defs.now + slots pattern.now) result }
 {
-    let Judged::Fine(_) = args else {
-        return args;
-    };
-    let a = judge_args(pattern, slots(defs));
-    let Judged::Fine(_) = a else {
-        return a;
-    };
-    let Judged::Fine(_) = deep else {
-        return deep;
-    };
+    args?;
+    judge_args(pattern, slots(defs))?;
+    deep?;
     judge_deep(pattern, slots(defs))
 }
 
 // An answer whose place goes on after d records.
-fn after_list(j: Judged, n: usize, d: usize) -> Judged
-    requires { (d ≤ 65536) × Low 65536 j }
+fn after_list(j: Result<usize, Flaw>, n: usize, d: usize) -> Result<usize, Flaw>
+    requires place_small { d ≤ 65536 }
+    requires low { Low 65536 j }
     ensures { result ≡ moved j n d }
 {
     match j {
-        Judged::Fine(_) => Judged::Fine(n),
-        Judged::Flawed(f, k) => Judged::Flawed(f, d + k),
+        Ok(_) => Ok(n),
+        Err(flaw) => Err(Flaw {
+            reason: flaw.reason,
+            place: d + flaw.place,
+        }),
     }
 }
 
 // A pattern after the definitions: the number of extractors, or the refusal.
-pub fn judge_pattern(text: &[u8], defs: &[u8], table: &[u64], f: Findings, pattern: &[u8]) -> Judged
-    requires { DefinitionsShaped defs.now × PatternShaped pattern.now × FoundIn text.now defs.now table.now f }
+pub fn judge_pattern(
+    text: &[u8],
+    defs: &[u8],
+    table: &[Entry],
+    f: Findings,
+    pattern: &[u8],
+) -> Result<usize, Flaw>
+    requires definitions { DefinitionsShaped defs.now }
+    requires one_pattern { PatternShaped pattern.now }
+    requires found { FoundIn text.now defs.now table.now f }
     ensures { Grounded text.now defs.now pattern.now table.now result }
 {
-    let args = f.args;
-    let deep = f.deep;
-    let b = judge_both(defs, pattern, args, deep);
-    let Judged::Fine(_) = b else {
-        return b;
-    };
-    let others = f.others;
-    let Judged::Fine(n) = others else {
-        return others;
-    };
-    let c = judge_calls(text, table, n, n, pattern, 0, 1);
+    judge_both(defs, pattern, f.args, f.deep)?;
+    let n = f.others?;
+    let known = Extractors::first_of(text, table, n);
+    let c = judge_calls(&known, n, pattern, 0, 1);
     after_list(c, n, slots(defs))
 }

@@ -1,13 +1,12 @@
 -- The ways through filling the store. Assumes nothing.
 use mathlib.Core.Path.{◌≡◌, refl, sym, ap, ◌∙◌}
-use mathlib.Core.Bool.{false}
 use mathlib.Core.List.{List, [], ◌∷◌, ◌++◌, append_assoc, append-nil}
 use Prim.Native.Nat.{ℕ, suc, ◌+◌, ◌-◌, ◌<◌, ◌≤◌}
 use native.Mathlib.Nat.{add-zero, zero-add}
 use native.Mathlib.Omega.{arith}
 use mir.Syntax.{w64}
 use mir.Val.{Fits}
-use lib.ListN.{length, get_or, set, drop, length-append, length-set}
+use lib.ListN.{length, get_or, set, take, drop, length-append, length-set}
 use lib.Seq.{drop-drop, get_or-set_same, get_or-set_other}
 use Rattle.trees.specs.declared.Rec.{Rec}
 use Rattle.trees.specs.Tree.{Tree, Trees, node, ∅, ◌▸◌, count, others, head_of, records, records_all, trees_of}
@@ -25,21 +24,25 @@ use Rattle.expansion.proofs.FlatOpening.{opened-template, store-append}
 use Rattle.expansion.proofs.IndexLaws.{all-at}
 use Rattle.expansion.proofs.StoreLaws.{templates-next, store-next, fine-first}
 use Rattle.grounds.specs.Leaves.{Leaves, ExtractorPlaced}
-use Rattle.judging.specs.Table.{name_in, arity_in, place_in, RowsOf, RowOf, Rows}
+use Rattle.judging.specs.declared.table.Entry.{Entry}
+use Rattle.std.specs.Prelude.{Option as Maybe, Some, None}
+use Rattle.std.proofs.lemmas.List.{get_or-take, length-take-le}
+use Rattle.judging.specs.Table.{row, name_in, arity_in, place_in, RowsOf, RowOf, Rows}
 use Rattle.grounds.proofs.At.{drop_from, here, length-recs, end-upto}
 use Rattle.judging.proofs.ScanLaws.{tree-inside}
 use Rattle.judging.proofs.RowLaws.{row_is}
-use Rattle.opening.specs.Wrote.{Wrote, all, full}
+use Rattle.opening.specs.declared.Side.TheVariants.{Store}
+use Rattle.opening.specs.Wrote.{Wrote}
 use Rattle.opening.specs.Made.{params_at}
 use Rattle.opening.specs.Walk.{Region, Ready, Readied, Room, Opened}
 use Rattle.opening.specs.Store.{extractors_in, Source, Stored}
-use Rattle.opening.proofs.WroteLaws.{wrote-store, wrote-out, wrote_up, wrote_none, wrote-both, wrote_stop, wrote_keeps}
+use Rattle.opening.proofs.WroteLaws.{wrote-store, wrote-out, wrote_up, wrote_none, wrote-both, wrote_stop, wrote_keeps, Fitted, wrote_fitted}
 use Rattle.opening.proofs.KeepLaws.{recs-part}
 use Rattle.opening.proofs.ReadyLaws.{fits-calls, templates-length, tree-records, leaves-span, others-at}
 
 -- ---- lists
 
-rows_at : (text defs t : List ℕ) (y : ℕ) (E : Extractors) (e : Named Extractor) (F : Extractors) → Rows text defs t y (E ++ (e ∷ F)) → RowOf text defs t (y + length E) e
+rows_at : (text defs : List ℕ) (t : List Entry) (y : ℕ) (E : Extractors) (e : Named Extractor) (F : Extractors) → Rows text defs t y (E ++ (e ∷ F)) → RowOf text defs t (y + length E) e
 rows_at text defs t y [] e F r = rw (add-zero y) r.0
 rows_at text defs t y (f ∷ E) e F r = let m : y + suc (length E) ≡ suc y + length E = omega arith in rw m (rows_at text defs t (suc y) E e F r.1)
 
@@ -56,7 +59,7 @@ templates-more text (f ∷ F) E =
       ap (opened_templates text) (sym (append_assoc E (f ∷ []) F)) ∙ r.1 ∙ ap (◌++ r.0) (templates-next text E f) ∙ append_assoc (opened_templates text E) new r.0,
     )
 
-module _ {A : Type 0} (text t : List ℕ) where
+module _ {A : Type 0} (text : List ℕ) (t : List Entry) where
   rows-map : (Q R : ℕ → A → Type 0) (x m : ℕ) (es : List (Named A)) → length es ≤ m → ((y : ℕ) (v : A) → y < x + m → Q y v → R y v) → RowsOf Q text t x es → RowsOf R text t x es
   rows-map Q R x m [] l f r = tt
   rows-map Q R x m (e ∷ es) l f r = (r.0, f x e.value (omega arith) r.1, rows-map Q R (suc x) (m - 1) es (omega arith) (λ y v h q. f y v (omega arith) q) r.2)
@@ -68,16 +71,24 @@ module _ {A : Type 0} (text t : List ℕ) where
       let m : x + suc (length es) ≡ suc x + length es = omega arith in
       (r.0, r.1, rows_snoc Q (suc x) es e (rw m at p) (rw m at q) r.2)
 
+module _ {A : Type 0} (text : List ℕ) (t : List Entry) (n : ℕ) where
+  -- the same of the first n rows
+  rows-take : (Q : ℕ → A → Type 0) (x : ℕ) (es : List (Named A)) → x + length es ≤ n → RowsOf Q text t x es → RowsOf Q text (take n t) x es
+  rows-take Q x [] h r = tt
+  rows-take Q x (e ∷ es) h r =
+      let q : row (take n t) x ≡ row t x = get_or-take n t x (record { name = 0; arity = 0; place = 0 }) (omega arith) in
+      (r.0 ∙ ap (λ (v : Entry). spelled text v.name) (sym q), r.1, rows-take Q (suc x) es (omega arith) r.2)
+
 -- ---- where an extractor's parameters and pattern stand
 
-record Place (t defs : List ℕ) (x : ℕ) (e : Named Extractor) : Type 0 where
+record Place (t : List Entry) (defs : List ℕ) (x : ℕ) (e : Named Extractor) : Type 0 where
   params : e.value.params ≡ params_at defs (place_in t x + 2) (arity_in t x)
   others-after : Trees
   tree : trees_of (drop (place_in t x + 2 + arity_in t x) (recs defs)) ≡ e.value.pattern ▸ others-after
   leaves : Leaves (arity_in t x) (drop (place_in t x + 2) (recs defs))
   inside : place_in t x + 2 + arity_in t x < slots defs
 
-place_of : (text defs t : List ℕ) (x : ℕ) (e : Named Extractor) → All Placed (recs defs) → All ExtractorPlaced (recs defs) → RowOf text defs t x e → Place t defs x e
+place_of : (text defs : List ℕ) (t : List Entry) (x : ℕ) (e : Named Extractor) → All Placed (recs defs) → All ExtractorPlaced (recs defs) → RowOf text defs t x e → Place t defs x e
 unfolding count
 place_of text defs t x e a b r =
     let i : ℕ = place_in t x in
@@ -106,37 +117,35 @@ place_of text defs t x e a b r =
 -- ---- the loop over the extractors
 
 -- the templates of the first x extractors are in the store, `used` records
-pub record Filling (space : ℕ) (text t : List ℕ) (n : ℕ) (defs ends s₀ o₀ starts₀ starts s o : List ℕ) (x used : ℕ) : Type 0 where
-  pub source : Source text t n defs ends
+pub record Filling (space : ℕ) (text : List ℕ) (t : List Entry) (defs ends s₀ o₀ starts₀ starts s o : List ℕ) (x used : ℕ) : Type 0 where
+  pub source : Source text t defs ends
   pub first : Extractors
   pub later : Extractors
   pub split : extractors_in text defs ≡ first ++ later
   pub sized : length first ≡ x
-  pub wrote : Wrote false space s₀ o₀ 0 (store_records (opened_templates text first)) s o used
+  pub wrote : Wrote Store space s₀ o₀ 0 (store_records (opened_templates text first)) s o (Some used)
   pub rows : RowsOf (Region starts s used) text t 0 (opened_templates text first)
   pub last : get_or starts x 0 ≡ used
-  pub room : used ≤ space
   pub there : space ≤ slots s
   pub most : space ≤ 65536
-  pub long : n < length starts
+  pub long : length t < length starts
   pub starts_same : length starts ≡ length starts₀
   pub store_same : length s ≡ length s₀
   pub out_same : length o ≡ length o₀
 
-pub filling_start : (space : ℕ) (text t : List ℕ) (n : ℕ) (defs ends s o starts : List ℕ) → Source text t n defs ends → n < length starts → space ≤ slots s → space ≤ 65536 → get_or starts 0 0 ≡ 0
-    → Filling space text t n defs ends s o starts starts s o 0 0
+pub filling_start : (space : ℕ) (text : List ℕ) (t : List Entry) (defs ends s o starts : List ℕ) → Source text t defs ends → length t < length starts → space ≤ slots s → space ≤ 65536 → get_or starts 0 0 ≡ 0
+    → Filling space text t defs ends s o starts starts s o 0 0
 unfolding opened_templates in_order store_records
-filling_start space text t n defs ends s o starts source long there most begun =
+filling_start space text t defs ends s o starts source long there most begun =
     record {
       source = source;
       first = [];
       later = extractors_in text defs;
       split = refl;
       sized = refl;
-      wrote = wrote_none false space s o 0 (omega arith);
+      wrote = wrote_none Store space s o 0 (omega arith);
       rows = tt;
       last = begun;
-      room = omega arith;
       there = there;
       most = most;
       long = long;
@@ -145,27 +154,30 @@ filling_start space text t n defs ends s o starts source long there most begun =
       out_same = refl;
     }
 
-module _ (space : ℕ) (text t : List ℕ) (n : ℕ) (defs ends s₀ o₀ starts₀ starts s o : List ℕ) (x used : ℕ) (g : Filling space text t n defs ends s₀ o₀ starts₀ starts s o x used) where
-  source : Source text t n defs ends
+module _ (space : ℕ) (text : List ℕ) (t : List Entry) (defs ends s₀ o₀ starts₀ starts s o : List ℕ) (x used : ℕ) (g : Filling space text t defs ends s₀ o₀ starts₀ starts s o x used) where
+  source : Source text t defs ends
   source = g.source
 
-  total : x + length g.later ≡ n
+  total : x + length g.later ≡ length t
   total = omega (arith, g.sized, ap length g.split, length-append g.first g.later, source.table.size)
 
-  pub filling_end : n ≤ x → Stored space text t n defs s₀ o₀ starts s o used
+  pub filling_end : length t ≤ x → Stored space text t defs s₀ o₀ starts s o (Some used)
   filling_end h = go g.later refl
     where
-      go : (F : Extractors) → g.later ≡ F → Stored space text t n defs s₀ o₀ starts s o used
+      go : (F : Extractors) → g.later ≡ F → Stored space text t defs s₀ o₀ starts s o (Some used)
       go (f ∷ F) e = absurd (omega (arith, total, ap length e))
       go [] e =
           let q : extractors_in text defs ≡ g.first = g.split ∙ ap (g.first ++◌) e ∙ append-nil g.first in
-          let m : x ≡ n = omega (arith, total) in
-          record { wrote = rw q g.wrote; rows = λ l. rw q g.rows; last = λ l. rw (← m) g.last }
+          let m : x ≡ length t = omega (arith, total) in
+          record { wrote = rw q g.wrote; rows = λ y l. let u : used ≡ y = cc in rw (← u, q) g.rows; last = λ y l. let u : used ≡ y = cc in rw (← u, ← m) g.last }
 
-  pub filling_room : Room false space (get_or starts x 0) s o used
-  filling_room = record { fits = g.room; there = g.there; low = λ e. omega (arith, g.last); most = g.most }
+  fitted : Fitted Store space s₀ o₀ s o 0 used (store_records (opened_templates text g.first))
+  fitted = wrote_fitted Store space s₀ o₀ s o 0 used (store_records (opened_templates text g.first)) g.wrote
 
-  module _ (more : x < n) where
+  pub filling_room : (m : ℕ) → m ≡ x → Room Store space (get_or starts m 0) s o used
+  filling_room m e = record { fits = fitted.fits; there = g.there; low = λ z. omega (arith, ap (λ (i : ℕ). get_or starts i 0) e, g.last); most = g.most }
+
+  module _ (more : x < length t) where
     next_one : (e : Named Extractor) × (F : Extractors) × (g.later ≡ e ∷ F)
     next_one = go g.later refl
       where
@@ -179,13 +191,13 @@ module _ (space : ℕ) (text t : List ℕ) (n : ℕ) (defs ends s₀ o₀ starts
     divided : extractors_in text defs ≡ g.first ++ (this ∷ next_one.1)
     divided = g.split ∙ ap (g.first ++◌) next_one.2
 
-    row : RowOf text defs t x this
-    row =
+    its-row : RowOf text defs t x this
+    its-row =
         let z : 0 + length g.first ≡ x = omega (arith, g.sized) in
         rw z at (rows_at text defs t 0 g.first this next_one.1 (rw divided at source.table.rows))
 
     place : Place t defs x this
-    place = place_of text defs t x this source.placed source.extractors-placed row
+    place = place_of text defs t x this source.placed source.extractors-placed its-row
 
     -- the indices of its parameters and of its pattern
 
@@ -194,6 +206,13 @@ module _ (space : ℕ) (text t : List ℕ) (n : ℕ) (defs ends s₀ o₀ starts
 
     pub filling_pattern : Fits w64 (place_in t x + 2 + arity_in t x)
     filling_pattern = record { fits = omega (arith, place.inside, source.small) }
+
+    -- the extractors before it
+    abbrev before : List Entry
+    before = take x t
+
+    before_x : length before ≡ x
+    before_x = length-take-le x t (omega arith)
 
     -- the index of its pattern
     abbrev root : ℕ
@@ -212,15 +231,14 @@ module _ (space : ℕ) (text t : List ℕ) (n : ℕ) (defs ends s₀ o₀ starts
         fine_by : (E : Extractors) → extractors_in text defs ≡ E → AllFine text (extractors_in text defs) [] E
         fine_by E e = rw (← e) source.fine
 
-    ready : Ready text t x starts defs ends (place_in t x + 2) (arity_in t x) (place_in t x + 2 + arity_in t x) s S
+    ready : Ready text before starts defs ends (place_in t x + 2) (arity_in t x) (place_in t x + 2 + arity_in t x) s S
     ready =
         record {
-          rows = rw g.last g.rows;
-          sized = templates-length text g.first ∙ g.sized;
-          long = omega (arith, source.table.few, source.table.long);
-          starts-long = omega (arith, g.long);
-          base_in = rw g.last (omega (arith, g.room, g.there));
-          base_small = omega (arith, g.last, g.room, g.most);
+          rows = rw (before_x, g.last) (rows-take text t x (Region starts s used) 0 S (omega (arith, templates-length text g.first, g.sized)) g.rows);
+          sized = templates-length text g.first ∙ g.sized ∙ sym before_x;
+          starts-long = omega (arith, g.long, before_x);
+          base_in = rw (before_x, g.last) (omega (arith, fitted.fits, g.there));
+          base_small = rw before_x (omega (arith, g.last, fitted.fits, g.most));
           placed = source.placed;
           small = source.small;
           ended = source.ended;
@@ -233,20 +251,27 @@ module _ (space : ℕ) (text t : List ℕ) (n : ℕ) (defs ends s₀ o₀ starts
               place.others-after place.tree counts k h l (omega (arith, end-upto (recs defs) root (rec_at defs root) (here defs root place.inside), length-recs defs)) o c;
         }
 
-    pub filling_readied : Readied text t x starts defs ends (place_in t x + 2) (arity_in t x) (place_in t x + 2 + arity_in t x) s
+    pub filling_readied : (u : List ℕ) (rs : List Entry) (v : Entry) → u ≡ text → rs ≡ take x t → v ≡ row t x → Readied u rs starts defs ends (v.place + 2) v.arity (v.place + 2 + v.arity) s
     unfolding Readied
-    filling_readied = (S, ready)
+    filling_readied u rs v e f k = rw (e, f, k) (S, ready)
 
-    module _ (s₁ o₁ : List ℕ) (y : ℕ) (opened : Opened false space text t x starts defs ends (place_in t x + 2) (arity_in t x) (place_in t x + 2 + arity_in t x) s o used s₁ o₁ y) where
+    pub filling_before : (rs : List Entry) → rs ≡ take x t → length rs ≡ x
+    filling_before rs e = rw e before_x
+
+    module _ (u : List ℕ) (rs : List Entry) (v : Entry) (a₁ : u ≡ text) (a₂ : rs ≡ take x t) (a₃ : v ≡ row t x) (s₁ o₁ : List ℕ) (z : Maybe ℕ)
+        (opened' : Opened Store space u rs starts defs ends (v.place + 2) v.arity (v.place + 2 + v.arity) s o used s₁ o₁ z) where
+      opened : Opened Store space text before starts defs ends (place_in t x + 2) (arity_in t x) (place_in t x + 2 + arity_in t x) s o used s₁ o₁ z
+      opened = rw (a₁, a₂, a₃) at opened'
+
       abbrev content : List Rec
       content = opened_at text S (params_at defs (place_in t x + 2) (arity_in t x)) (recs defs) (place_in t x + 2 + arity_in t x) 1
 
-      w : Wrote false space s o used content s₁ o₁ y
+      w : Wrote Store space s o used content s₁ o₁ z
       unfolding Opened
       w = opened S ready
 
       store_same : length s₁ ≡ length s
-      store_same = wrote-store false space s o s₁ o₁ used y content w
+      store_same = wrote-store Store space s o s₁ o₁ used z content w
 
       -- the template that was opened
       listed : drop (place_in t x + 2 + arity_in t x) (recs defs) ≡ records this.value.pattern ++ records_all place.others-after
@@ -260,13 +285,13 @@ module _ (space : ℕ) (text t : List ℕ) (n : ℕ) (defs ends s₀ o₀ starts
       template-is : content ≡ records (open_template text S this.value)
       template-is = content_is ∙ opened-template text S this.value (records_all place.others-after)
 
-      both : Wrote false space s₀ o₀ 0 (store_records (opened_templates text g.first) ++ content) s₁ o₁ y
-      both = wrote-both false space s₀ o₀ s o s₁ o₁ 0 used y (store_records (opened_templates text g.first)) content g.room g.wrote w
+      both : Wrote Store space s₀ o₀ 0 (store_records (opened_templates text g.first) ++ content) s₁ o₁ z
+      both = wrote-both Store space s₀ o₀ s o s₁ o₁ 0 used z (store_records (opened_templates text g.first)) content g.wrote w
 
       store_is : store_records (opened_templates text (g.first ++ (this ∷ []))) ≡ store_records (opened_templates text g.first) ++ content
       store_is = store-next text g.first this (records_all place.others-after) ∙ ap (store_records (opened_templates text g.first) ++◌) (sym content_is)
 
-      pub filling_full : space < y → Stored space text t n defs s₀ o₀ starts s₁ o₁ y
+      pub filling_full : z ≡ None → Stored space text t defs s₀ o₀ starts s₁ o₁ None
       filling_full h =
           let m = templates-more text next_one.1 (g.first ++ (this ∷ [])) in
           let e : opened_templates text (extractors_in text defs) ≡ opened_templates text (g.first ++ (this ∷ [])) ++ m.0 =
@@ -274,33 +299,39 @@ module _ (space : ℕ) (text t : List ℕ) (n : ℕ) (defs ends s₀ o₀ starts
           let q : store_records (opened_templates text (extractors_in text defs)) ≡ (store_records (opened_templates text g.first) ++ content) ++ store_records m.0 =
           ap store_records e ∙ store-append (opened_templates text (g.first ++ (this ∷ []))) m.0 ∙ ap (◌++ store_records m.0) store_is in
           record {
-            wrote = rw q (wrote_stop false space s₀ o₀ s₁ o₁ 0 y (store_records (opened_templates text g.first) ++ content) (store_records m.0) h both);
-            rows = λ l. absurd (omega arith);
-            last = λ l. absurd (omega arith);
+            wrote = rw q (wrote_stop Store space s₀ o₀ s₁ o₁ 0 (store_records (opened_templates text g.first) ++ content) (store_records m.0) (rw h at both));
+            rows = λ y l. absurd (let c : ◌≡◌ {A = ℕ} 0 1 = cc in omega arith);
+            last = λ y l. absurd (let c : ◌≡◌ {A = ℕ} 0 1 = cc in omega arith);
           }
 
-      module _ (fits : y ≤ space) where
+      module _ (y : ℕ) (some_y : z ≡ Some y) where
+        w' : Wrote Store space s o used content s₁ o₁ (Some y)
+        w' = rw some_y at w
+
+        fitted' : Fitted Store space s o s₁ o₁ used y content
+        fitted' = wrote_fitted Store space s o s₁ o₁ used y content w'
+
         abbrev starts' : List ℕ
         starts' = set starts (x + 1) y
 
-        old_start : (z : ℕ) → z ≤ x → get_or starts' z 0 ≡ get_or starts z 0
-        old_start z h = get_or-set_other starts (x + 1) z y 0 (λ e. omega arith)
+        old_start : (j : ℕ) → j ≤ x → get_or starts' j 0 ≡ get_or starts j 0
+        old_start j h = get_or-set_other starts (x + 1) j y 0 (λ e. omega arith)
 
         new-start : get_or starts' (x + 1) 0 ≡ y
         new-start = get_or-set_same starts (x + 1) y 0 (omega (arith, g.long))
 
         kept : recs_from s₁ 0 used ≡ recs_from s 0 used
-        kept = wrote_keeps false space used s o s₁ o₁ used y content (λ e. omega arith) fits w
+        kept = wrote_keeps Store space used s o s₁ o₁ used y content (λ e. omega arith) w'
 
         up : used ≤ y
-        up = wrote_up false space s o s₁ o₁ used y content g.room w
+        up = wrote_up Store space s o s₁ o₁ used y content w'
 
-        old_region : (z : ℕ) (v : Tree) → z < 0 + x → Region starts s used z v → Region starts' s₁ y z v
-        old_region z v h r =
-            let a : get_or starts' z 0 ≡ get_or starts z 0 = old_start z (omega arith) in
-            let b : get_or starts' (z + 1) 0 ≡ get_or starts (z + 1) 0 = old_start (z + 1) (omega arith) in
+        old_region : (j : ℕ) (c : Tree) → j < 0 + x → Region starts s used j c → Region starts' s₁ y j c
+        old_region j c h r =
+            let a : get_or starts' j 0 ≡ get_or starts j 0 = old_start j (omega arith) in
+            let b : get_or starts' (j + 1) 0 ≡ get_or starts (j + 1) 0 = old_start (j + 1) (omega arith) in
             record {
-              holds = rw (a, b) (r.holds ∙ sym (recs-part s s₁ used (get_or starts z 0) (get_or starts (z + 1) 0 - get_or starts z 0) kept (omega (arith, r.forward, r.inside))));
+              holds = rw (a, b) (r.holds ∙ sym (recs-part s s₁ used (get_or starts j 0) (get_or starts (j + 1) 0 - get_or starts j 0) kept (omega (arith, r.forward, r.inside))));
               forward = rw (a, b) r.forward;
               inside = rw b (omega (arith, r.inside, up));
             }
@@ -314,20 +345,16 @@ module _ (space : ℕ) (text t : List ℕ) (n : ℕ) (defs ends s₀ o₀ starts
             drop_at_end n [] ys e = rw (← e)
             drop_at_end n (x ∷ xs) ys e = rw (← e) (drop_at_end (length xs) xs ys refl)
 
-        read_back : Wrote false space s o used content s₁ o₁ y → recs_from s₁ 0 y ≡ recs_from s 0 used ++ content
-        read_back (all a b c d e f h) = f
-        read_back (full a b c d) = absurd (omega arith)
-
         new_region : Region starts' s₁ y x (open_template text S this.value)
         new_region =
             let a : get_or starts' x 0 ≡ used = old_start x (omega arith) ∙ g.last in
             record {
-              holds = rw (a, new-start) (sym template-is ∙ sym (tail-is s₁ content (read_back w)));
+              holds = rw (a, new-start) (sym template-is ∙ sym (tail-is s₁ content fitted'.reads));
               forward = rw (a, new-start) up;
               inside = rw new-start (omega arith);
             }
 
-        pub filling_next : Filling space text t n defs ends s₀ o₀ starts₀ (set starts (x + 1) y) s₁ o₁ (x + 1) y
+        pub filling_next : Filling space text t defs ends s₀ o₀ starts₀ (set starts (x + 1) y) s₁ o₁ (x + 1) y
         filling_next =
             record {
               source = source;
@@ -335,19 +362,18 @@ module _ (space : ℕ) (text t : List ℕ) (n : ℕ) (defs ends s₀ o₀ starts
               later = next_one.1;
               split = divided ∙ sym (append_assoc g.first (this ∷ []) next_one.1);
               sized = length-append g.first (this ∷ []) ∙ omega (arith, g.sized);
-              wrote = rw store_is both;
+              wrote = rw store_is (rw some_y at both);
               rows =
                   let count-S : length S ≡ x = templates-length text g.first ∙ g.sized in
-                  let z : 0 + length S ≡ x = omega arith in
+                  let e : 0 + length S ≡ x = omega arith in
                   rw (templates-next text g.first this) (rows_snoc text t (Region starts' s₁ y) 0 S (named this.name (open_template text S this.value))
-                  (rw z (ap (λ (v : Named Extractor). v.name) (row_is text defs t x this source.placed row).0)) (rw z new_region)
+                  (rw e (ap (λ (v : Named Extractor). v.name) (row_is text defs t x this source.placed its-row).0)) (rw e new_region)
                   (rows-map text t (Region starts s used) (Region starts' s₁ y) 0 x S (omega arith) old_region g.rows));
               last = new-start;
-              room = fits;
               there = rw store_same g.there;
               most = g.most;
               long = rw (length-set starts (x + 1) y) g.long;
               starts_same = length-set starts (x + 1) y ∙ g.starts_same;
               store_same = store_same ∙ g.store_same;
-              out_same = wrote-out false space s o s₁ o₁ used y content w ∙ g.out_same;
+              out_same = wrote-out Store space s o s₁ o₁ used z content w ∙ g.out_same;
             }

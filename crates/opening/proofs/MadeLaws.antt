@@ -22,10 +22,12 @@ use Rattle.expansion.specs.Flat.{span, after, end_of, stands_at, Placed, opened_
 use Rattle.expansion.proofs.SpanLaws.{span-add}
 use Rattle.expansion.proofs.IndexLaws.{all-at, at_parameter, at_plain}
 use Rattle.grounds.specs.Leaves.{Leaves}
+use Rattle.judging.specs.declared.table.Entry.{Entry}
 use Rattle.judging.specs.Table.{looked}
 use Rattle.grounds.proofs.At.{here, past, length-recs, trees-at, end_more}
 use Rattle.judging.proofs.ScanLaws.{tree-inside, there-next}
 use Rattle.judging.proofs.CallLaws.{call_second}
+use Rattle.std.specs.Prelude.{Option as Maybe, Some, None}
 use Rattle.opening.specs.Ends.{EndsFrom}
 use Rattle.opening.specs.Made.{params_at, Params, Located, Makeable, Sought, MadeAt, call_number}
 
@@ -38,6 +40,22 @@ add_to j (some i) = some (j + i)
 -- the first of the parameters from the number j on that has the name w, counted from j
 abbrev sought_from : List ℕ → List ℕ → ℕ → ℕ → ℕ → ℕ → Option ℕ
 sought_from text src pa pc w j = position text (spelled text w) (firsts (pc - j) (trees_of (drop (pa + j) (recs src))))
+
+sought-none : (m : ℕ) (o : Option ℕ) → o ≡ none → Sought m o None
+sought-none m o e =
+    record {
+      below = λ j q. absurd (let z : ◌≡◌ {A = ℕ} 0 1 = cc in omega arith);
+      found = λ j q. absurd (let z : ◌≡◌ {A = ℕ} 0 1 = cc in omega arith);
+      missing = λ q. e;
+    }
+
+sought-some : (m i : ℕ) (o : Option ℕ) → i < m → o ≡ some i → Sought m o (Some i)
+sought-some m i o h e =
+    record {
+      below = λ j q. let s : i ≡ j = cc in rw (← s) h;
+      found = λ j q. let s : i ≡ j = cc in rw (← s) e;
+      missing = λ q. absurd (let z : ◌≡◌ {A = ℕ} 0 1 = cc in omega arith);
+    }
 
 -- none of the first j parameters has the name w
 pub record Seeking (text src : List ℕ) (pa pc w j : ℕ) : Type 0 where
@@ -61,11 +79,11 @@ seeking_start text src pa pc w p =
     record { params_in = p.params_in; upto = omega arith; leaves = rw (e, f) p.leaves; leads = rw (e, f) (add_none (position text (spelled text w) (params_at src pa pc))) }
 
 module _ (text src : List ℕ) (pa pc w j : ℕ) (g : Seeking text src pa pc w j) where
-  pub seeking_end : pc ≤ j → Sought pc (position text (spelled text w) (params_at src pa pc)) j
+  pub seeking_end : pc ≤ j → Sought pc (position text (spelled text w) (params_at src pa pc)) None
   unfolding firsts position
   seeking_end h =
       let z : pc - j ≡ 0 = omega arith in
-      record { upto = g.upto; found = λ l. absurd (omega arith); missing = λ e. g.leads ∙ rw z }
+      sought-none pc (position text (spelled text w) (params_at src pa pc)) (g.leads ∙ rw z)
 
   module _ (p : Rec) (is : p ≡ rec_at src (pa + j)) (r : Bool) (e : r ≡ same_bytes (spelled text w) (spelled text p.word1)) (more : j < pc) where
     size : pc - j ≡ suc (pc - (j + 1))
@@ -87,10 +105,10 @@ module _ (text src : List ℕ) (pa pc w j : ℕ) (g : Seeking text src pa pc w j
     turn_next : r ≡ false → sought_from text src pa pc w j ≡ next (sought_from text src pa pc w (j + 1))
     turn_next q = turn ∙ rw q
 
-    pub seeking_here : r ≡ true → Sought pc (position text (spelled text w) (params_at src pa pc)) j
+    pub seeking_here : r ≡ true → Sought pc (position text (spelled text w) (params_at src pa pc)) (Some j)
     seeking_here q =
         let z : j + 0 ≡ j = omega arith in
-        record { upto = g.upto; found = λ l. g.leads ∙ ap (add_to j) (turn_here q) ∙ ap some z; missing = λ l. absurd (omega arith) }
+        sought-some pc j (position text (spelled text w) (params_at src pa pc)) more (g.leads ∙ ap (add_to j) (turn_here q) ∙ ap some z)
 
     pub seeking_next : r ≡ false → Seeking text src pa pc w (j + 1)
     seeking_next q =
@@ -147,14 +165,14 @@ module _ (src : List ℕ) (k : ℕ) (r : Rec) (is : r ≡ rec_at src k) (loc : L
     stands = stands_at text ps (rec_at src k) (drop (k + 1) (recs src))
 
     -- what it stands for is looked for by the name i
-    pub sought_var : (pc j : ℕ) (i : Rec) → r.kind ≡ 30 → i ≡ rec_at src (k + 1) → Sought pc (position text (spelled text i.word1) ps) j → Sought pc stands j
+    pub sought_var : (pc : ℕ) (j : Maybe ℕ) (i : Rec) → r.kind ≡ 30 → i ≡ rec_at src (k + 1) → Sought pc (position text (spelled text i.word1) ps) j → Sought pc stands j
     unfolding stands_at
     sought_var pc j i e q s = rw (here src (k + 1) (var-second e), ← is, is-var e, ← q) s
 
-    not_found : (pc : ℕ) → stands ≡ none → Sought pc stands pc
-    not_found pc e = record { upto = omega arith; found = λ l. absurd (omega arith); missing = λ l. e }
+    not_found : (pc : ℕ) → stands ≡ none → Sought pc stands None
+    not_found pc e = sought-none pc stands e
 
-    pub sought_other : (pc : ℕ) → (r.kind ≡ 30 → ⊥) → (r.kind ≡ 31 → ⊥) → Sought pc stands pc
+    pub sought_other : (pc : ℕ) → (r.kind ≡ 30 → ⊥) → (r.kind ≡ 31 → ⊥) → Sought pc stands None
     unfolding is_var is_bind stands_at
     sought_other pc e f = not_found pc (go (drop (k + 1) (recs src)))
       where
@@ -174,11 +192,11 @@ module _ (src : List ℕ) (k : ℕ) (r : Rec) (is : r ≡ rec_at src k) (loc : L
           let d : drop (k + 1) (recs src) ≡ rec_at src (k + 1) ∷ drop (k + 2) (recs src) = here src (k + 1) (bind-second e) ∙ rw two in
           rw (d, here src (k + 2) (bind_third e), ← is, not_var, is-bind e)
 
-      pub sought_bind : (pc j : ℕ) (i : Rec) → v.kind ≡ 36 → i ≡ rec_at src (k + 1) → Sought pc (position text (spelled text i.word1) ps) j → Sought pc stands j
+      pub sought_bind : (pc : ℕ) (j : Maybe ℕ) (i : Rec) → v.kind ≡ 36 → i ≡ rec_at src (k + 1) → Sought pc (position text (spelled text i.word1) ps) j → Sought pc stands j
       unfolding is_wildcard
       sought_bind pc j i q p s = let b : stands ≡ position text (spelled text i.word1) ps = bind_is ∙ rw (← third, eq-eqb v.kind 36 q, p) in rw b s
 
-      pub sought_bound : (pc : ℕ) → (v.kind ≡ 36 → ⊥) → Sought pc stands pc
+      pub sought_bound : (pc : ℕ) → (v.kind ≡ 36 → ⊥) → Sought pc stands None
       unfolding is_wildcard
       sought_bound pc q = not_found pc (bind_is ∙ rw (← third, ne_eqb v.kind 36 q))
 
@@ -195,18 +213,18 @@ passed l k m =
 abbrev pub argument : ℕ → ℕ → Rec
 argument pos i = record_of (macro_arg pos i) 0
 
-module _ (text src ends : List ℕ) (pa pc k : ℕ) (m : Makeable src ends pa pc k) (r : Rec) (is : r ≡ rec_at src k) (j : ℕ)
-    (s : Sought pc (stands_at text (params_at src pa pc) (rec_at src k) (drop (k + 1) (recs src))) j) where
+module _ (text src ends : List ℕ) (pa pc k : ℕ) (m : Makeable src ends pa pc k) (r : Rec) (is : r ≡ rec_at src k) (o : Maybe ℕ)
+    (s : Sought pc (stands_at text (params_at src pa pc) (rec_at src k) (drop (k + 1) (recs src))) o) where
   spot_at : drop k (recs src) ≡ rec_at src k ∷ drop (k + 1) (recs src)
   spot_at = here src k m.located.inside
 
   placed_at : Placed (rec_at src k) (drop (k + 1) (recs src))
   placed_at = all-at (recs src) Placed m.located.placed k (rec_at src k) (drop (k + 1) (recs src)) spot_at
 
-  pub made_plain : pc ≤ j → MadeAt text src pa pc k (record { rec = r; next = k + 1 })
+  pub made_plain : o ≡ None → MadeAt text src pa pc k (record { rec = r; next = k + 1 })
   unfolding span
   made_plain h =
-      let none_here = s.missing (omega (arith, s.upto)) in
+      let none_here = s.missing h in
       rw is (record {
         opens = λ S n c. at_plain text S (params_at src pa pc) (recs src) k n (rec_at src k) spot_at placed_at none_here c;
         forward = omega arith;
@@ -214,13 +232,13 @@ module _ (text src ends : List ℕ) (pa pc k : ℕ) (m : Makeable src ends pa pc
         ends = λ n. rw spot_at (omega arith);
       })
 
-  pub made-argument : (end : ℕ) → end ≡ get_or ends k 0 → j < pc → MadeAt text src pa pc k (record { rec = argument r.pos j; next = end })
+  pub made-argument : (j end : ℕ) → end ≡ get_or ends k 0 → o ≡ Some j → MadeAt text src pa pc k (record { rec = argument r.pos j; next = end })
   unfolding EndsFrom count
-  made-argument end read h =
+  made-argument j end read h =
       let e : end ≡ end_of (recs src) k = read ∙ m.ended k (omega arith) (omega (arith, m.located.inside, length-recs src)) in
       rw (e, is) (record {
         opens = λ S n c.
-            at_parameter text S (params_at src pa pc) (recs src) k n (rec_at src k) spot_at placed_at j (s.found h)
+            at_parameter text S (params_at src pa pc) (recs src) k n (rec_at src k) spot_at placed_at j (s.found j h)
             ∙ ap (λ (i : ℕ). argument (rec_at src k).pos j ∷ opened_at text S (params_at src pa pc) (recs src) (end_of (recs src) k) i) (sym (zero-add n));
         forward = end_more (recs src) k (rec_at src k) spot_at;
         there = λ n l. omega (arith, ap count (trees-at (recs src) k (rec_at src k) spot_at));
@@ -229,12 +247,12 @@ module _ (text src ends : List ℕ) (pa pc k : ℕ) (m : Makeable src ends pa pc
 
 -- ---- what it calls
 
-module _ (text t : List ℕ) (n : ℕ) (src : List ℕ) (k : ℕ) (r : Rec) (is : r ≡ rec_at src k) where
-  pub call_none : (r.kind ≡ 35 → ⊥) → n ≡ call_number text t n src k
+module _ (text : List ℕ) (t : List Entry) (src : List ℕ) (k : ℕ) (r : Rec) (is : r ≡ rec_at src k) where
+  pub call_none : (r.kind ≡ 35 → ⊥) → None ≡ call_number text t src k
   unfolding call_number
   call_none e = rw (← is, ne_eqb r.kind 35 e)
 
-  pub call_some : r.kind ≡ 35 → (i : Rec) (x : ℕ) → i ≡ rec_at src (k + 1) → x ≡ looked text t i.word1 0 n → x ≡ call_number text t n src k
+  pub call_some : r.kind ≡ 35 → (i : Rec) (x : Maybe ℕ) → i ≡ rec_at src (k + 1) → x ≡ looked text t i.word1 → x ≡ call_number text t src k
   unfolding call_number
   call_some e i x p q = q ∙ rw (p, ← is, eq-eqb r.kind 35 e)
 

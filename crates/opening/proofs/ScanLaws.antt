@@ -1,6 +1,6 @@
 -- The loop of filling a template: its invariant, and a law for each way through it. Assumes nothing.
 use mathlib.Core.Path.{◌≡◌, refl, sym, ap, ◌∙◌}
-use mathlib.Core.Bool.{Bool, true}
+use mathlib.Core.Bool.{true}
 use mathlib.Core.Option.{some}
 use mathlib.Core.List.{List, [], ◌∷◌, ◌++◌}
 use Prim.Native.Nat.{ℕ, suc, ◌+◌, ◌-◌, ◌*◌, ◌<◌, ◌≤◌}
@@ -21,6 +21,9 @@ use Rattle.expansion.proofs.SpanLaws.{span-add}
 use Rattle.expansion.proofs.IndexLaws.{child-last, all-at}
 use Rattle.grounds.proofs.At.{here, length-recs, end_more}
 use Rattle.judging.proofs.ScanLaws.{trees-few}
+use Rattle.judging.specs.declared.table.Entry.{Entry}
+use Rattle.std.specs.Prelude.{Option as Maybe, Some, None}
+use Rattle.opening.specs.declared.Side.{Side}
 use Rattle.opening.specs.Wrote.{Appendable, Wrote}
 use Rattle.opening.specs.Ends.{Childed, Child, behind}
 use Rattle.opening.specs.Made.{params_at}
@@ -28,7 +31,7 @@ use Rattle.opening.specs.Walk.{Region, Ready, Room, Readied, Fillable, Opened, F
 use Rattle.opening.proofs.EndsLaws.{hop-start, ends-later, hop-inside, hop-end}
 use Rattle.opening.proofs.WroteLaws.{wrote-store, wrote-out, wrote_none, wrote-both, wrote_stop, wrote_keeps}
 use Rattle.opening.proofs.KeepLaws.{recs-part, ready_keep, ready-inside, room_next, room-one}
-use Rattle.opening.proofs.CalledLaws.{call_found}
+use Rattle.opening.proofs.CalledLaws.{call_found, call_inside}
 
 -- ---- MacroArgs of a list of records are below a number
 
@@ -53,8 +56,8 @@ mutual
 
 -- ---- a child of a record
 
-module _ (text t : List ℕ) (n : ℕ) (starts src ends : List ℕ) (pa pc : ℕ) where
-  module _ (k : ℕ) (s : List ℕ) (S : List (Named Tree)) (r : Ready text t n starts src ends pa pc k s S) where
+module _ (text : List ℕ) (t : List Entry) (starts src ends : List ℕ) (pa pc : ℕ) where
+  module _ (k : ℕ) (s : List ℕ) (S : List (Named Tree)) (r : Ready text t starts src ends pa pc k s S) where
     whole : (rec_at src k).count ≤ count (trees_of (drop (k + 1) (recs src)))
     whole = (all-at (recs src) Placed r.placed k (rec_at src k) (drop (k + 1) (recs src)) (here src k r.inside)).whole
 
@@ -69,10 +72,10 @@ module _ (text t : List ℕ) (n : ℕ) (starts src ends : List ℕ) (pa pc : ℕ
           let e : behind src (k + 1) (rec_at src k).count ≡ end_of (recs src) k = child-last (recs src) k (rec_at src k) (here src k r.inside) in
           omega (arith, hop-end src (k + 1) c a child.at, ap (span (drop (k + 1) (recs src))) z, span-add (drop (k + 1) (recs src)) (c + 1) ((rec_at src k).count - (c + 1)))
 
-      child-ready : Ready text t n starts src ends pa pc a s S
-      child-ready = ready-inside text t n starts src ends pa pc S k a s (omega (arith, child.at)) child-inside child-end r
+      child-ready : Ready text t starts src ends pa pc a s S
+      child-ready = ready-inside text t starts src ends pa pc S k a s (omega (arith, child.at)) child-inside child-end r
 
-  pub readied-child : (k c a : ℕ) (s : List ℕ) → Child src k c a → Readied text t n starts src ends pa pc k s → Readied text t n starts src ends pa pc a s
+  pub readied-child : (k c a : ℕ) (s : List ℕ) → Child src k c a → Readied text t starts src ends pa pc k s → Readied text t starts src ends pa pc a s
   unfolding Readied
   readied-child k c a s child e = (e.0, child-ready k s e.0 e.1 c a child)
 
@@ -82,9 +85,9 @@ recs-cons : (s : List ℕ) (j end : ℕ) → j < end → recs_from s j (end - j)
 unfolding recs_from
 recs-cons s j end h = let e : end - j ≡ suc (end - (j + 1)) = omega arith in rw (e, add-one j)
 
-module _ (outward : Bool) (space : ℕ) (text t : List ℕ) (n : ℕ) (starts src ends : List ℕ) (pa pc : ℕ) where
+module _ (outward : Side) (space : ℕ) (text : List ℕ) (t : List Entry) (starts src ends : List ℕ) (pa pc : ℕ) where
   abbrev ReadyAt : ℕ → List ℕ → List (Named Tree) → Type 0
-  ReadyAt i s S = Ready text t n starts src ends pa pc i s S
+  ReadyAt i s S = Ready text t starts src ends pa pc i s S
 
   -- what the record k calls
   abbrev Calls : List (Named Tree) → ℕ → Tree → Type 0
@@ -97,32 +100,32 @@ module _ (outward : Bool) (space : ℕ) (text t : List ℕ) (n : ℕ) (starts sr
   -- of the template that the record k calls, the records from the slot j of the store up to `end` are left; whatever writes these, filled, after y records
   -- has written the whole; `from` is the index after `last` children of the call
   pub record Scanning (s₀ o₀ : List ℕ) (k m : ℕ) (s o : List ℕ) (end j y from last : ℕ) : Type 0 where
-    pub readied : Readied text t n starts src ends pa pc k s
+    pub readied : Readied text t starts src ends pa pc k s
     pub ready : (S : List (Named Tree)) → ReadyAt k s₀ S → ReadyAt k s S
-    pub room : Room outward space (get_or starts n 0) s o y
-    pub within : end ≤ get_or starts n 0
+    pub room : Room outward space (get_or starts (length t) 0) s o y
+    pub within : end ≤ get_or starts (length t) 0
     pub begun : from ≡ behind src (k + 1) last
     pub args : ArgsBelow ((rec_at src k).count - 1) (recs_from s j (end - j))
     pub store_same : length s ≡ length s₀
     pub out_same : length o ≡ length o₀
-    pub leads : (S : List (Named Tree)) → ReadyAt k s₀ S → (c : Tree) → Calls S k c → (s' o' : List ℕ) (z : ℕ)
+    pub leads : (S : List (Named Tree)) → ReadyAt k s₀ S → (c : Tree) → Calls S k c → (s' o' : List ℕ) (z : Maybe ℕ)
         → Wrote outward space s o y (fill (argument S k) (recs_from s j (end - j))) s' o' z → Wrote outward space s₀ o₀ m (fill (argument S k) (records c)) s' o' z
 
-  module _ (s₀ o₀ : List ℕ) (k x m : ℕ) (e : Fillable outward space text t n starts src ends pa pc k x s₀ o₀ m) where
+  module _ (s₀ o₀ : List ℕ) (k x m : ℕ) (e : Fillable outward space text t starts src ends pa pc k x s₀ o₀ m) where
     entry_ready : (S : List (Named Tree)) × ReadyAt k s₀ S
     unfolding Readied
     entry_ready = e.readied
 
     pub fillable_starts : x + 1 < length starts
-    fillable_starts = omega (arith, e.below, entry_ready.1.starts-long)
+    fillable_starts = omega (arith, call_inside text t starts src ends pa pc entry_ready.0 k s₀ entry_ready.1 k entry_ready.1.inside x e.number, entry_ready.1.starts-long)
 
     pub fillable_inside : k < 65536
     fillable_inside = omega (arith, entry_ready.1.inside, entry_ready.1.small)
 
-    the_call : (S : List (Named Tree)) → ReadyAt k s₀ S → (c : Tree) × Calls S k c × Region starts s₀ (get_or starts n 0) x c
-    the_call S r = call_found text t n starts src ends pa pc S k s₀ r k r.inside x e.number e.below
+    the_call : (S : List (Named Tree)) → ReadyAt k s₀ S → (c : Tree) × Calls S k c × Region starts s₀ (get_or starts (length t) 0) x c
+    the_call S r = call_found text t starts src ends pa pc S k s₀ r k r.inside x e.number
 
-    the_region : (S : List (Named Tree)) → ReadyAt k s₀ S → (c : Tree) → Calls S k c → Region starts s₀ (get_or starts n 0) x c
+    the_region : (S : List (Named Tree)) → ReadyAt k s₀ S → (c : Tree) → Calls S k c → Region starts s₀ (get_or starts (length t) 0) x c
     the_region S r c q =
         let w = the_call S r in
         let same : w.0 ≡ c = some_same (called_at text S (rec_at src k) (drop (k + 1) (recs src))) w.0 c w.1 q in
@@ -154,7 +157,7 @@ module _ (outward : Bool) (space : ℕ) (text t : List ℕ) (n : ℕ) (starts sr
     now_ready = g.readied.1
 
     children : (rec_at src k).count ≤ count (trees_of (drop (k + 1) (recs src)))
-    children = whole text t n starts src ends pa pc k s held now_ready
+    children = whole text t starts src ends pa pc k s held now_ready
 
     pub scanning_inside : end ≤ slots s
     scanning_inside = omega (arith, g.within, now_ready.base_in)
@@ -163,17 +166,17 @@ module _ (outward : Bool) (space : ℕ) (text t : List ℕ) (n : ℕ) (starts sr
     scanning_most = omega (arith, g.within, now_ready.base_small)
 
     pub scanning_room : Appendable outward space s o y
-    scanning_room = room-one outward space (get_or starts n 0) s o y g.room
+    scanning_room = room-one outward space (get_or starts (length t) 0) s o y g.room
 
-    pub scanning_end : end ≤ j → Filled outward space text t n starts src ends pa pc k s₀ o₀ m s o y
+    pub scanning_end : end ≤ j → Filled outward space text t starts src ends pa pc k s₀ o₀ m s o (Some y)
     unfolding Filled fill recs_from
     scanning_end h S r c q =
         let z : end - j ≡ 0 = omega arith in
-        g.leads S r c q s o y (rw z (wrote_none outward space s o y g.room.fits))
+        g.leads S r c q s o (Some y) (rw z (wrote_none outward space s o y g.room.fits))
 
     -- a child stands after the record
     pub scanning_less : (c a z : ℕ) → Child src k c a → 2 * (slots src - k) ≡ z → 2 * (slots src - a) + 1 < z
-    scanning_less c a z child h = omega (arith, child.at, child-inside text t n starts src ends pa pc k s held now_ready c a child)
+    scanning_less c a z child h = omega (arith, child.at, child-inside text t starts src ends pa pc k s held now_ready c a child)
 
     module _ (more : j < end) (r : Rec) (is : r ≡ rec_at s j) where
       split : recs_from s j (end - j) ≡ r ∷ recs_from s (j + 1) (end - (j + 1))
@@ -184,47 +187,47 @@ module _ (outward : Bool) (space : ℕ) (text t : List ℕ) (n : ℕ) (starts sr
       later S = fill (argument S k) (recs_from s (j + 1) (end - (j + 1)))
 
       -- a part of what is left is written
-      module _ (s₁ o₁ : List ℕ) (y₁ : ℕ) (l : List (Named Tree) → List Rec) (w : (S : List (Named Tree)) → ReadyAt k s S → Wrote outward space s o y (l S) s₁ o₁ y₁)
+      module _ (s₁ o₁ : List ℕ) (l : List (Named Tree) → List Rec)
           (splits : (S : List (Named Tree)) → fill (argument S k) (recs_from s j (end - j)) ≡ l S ++ later S) where
-        part-full : space < y₁ → Filled outward space text t n starts src ends pa pc k s₀ o₀ m s₁ o₁ y₁
+        part-full : ((S : List (Named Tree)) → ReadyAt k s S → Wrote outward space s o y (l S) s₁ o₁ None) → Filled outward space text t starts src ends pa pc k s₀ o₀ m s₁ o₁ None
         unfolding Filled
-        part-full h S q c e =
-            g.leads S q c e s₁ o₁ y₁ (rw (splits S) (wrote_stop outward space s o s₁ o₁ y y₁ (l S) (later S) h (w S (g.ready S q))))
+        part-full w S q c e =
+            g.leads S q c e s₁ o₁ None (rw (splits S) (wrote_stop outward space s o s₁ o₁ y (l S) (later S) (w S (g.ready S q))))
 
-        part : (from₁ last₁ : ℕ) → from₁ ≡ behind src (k + 1) last₁ → y₁ ≤ space → Scanning s₀ o₀ k m s₁ o₁ end (j + 1) y₁ from₁ last₁
+        part : (y₁ from₁ last₁ : ℕ) → from₁ ≡ behind src (k + 1) last₁ → ((S : List (Named Tree)) → ReadyAt k s S → Wrote outward space s o y (l S) s₁ o₁ (Some y₁)) → Scanning s₀ o₀ k m s₁ o₁ end (j + 1) y₁ from₁ last₁
         unfolding ArgsBelow Readied
-        part from₁ last₁ begun h =
+        part y₁ from₁ last₁ begun w =
             let l₁ : List Rec = l held in
-            let w₁ : Wrote outward space s o y l₁ s₁ o₁ y₁ = w held now_ready in
-            let same : length s₁ ≡ length s = wrote-store outward space s o s₁ o₁ y y₁ l₁ w₁ in
-            let kept : recs_from s₁ 0 (get_or starts n 0) ≡ recs_from s 0 (get_or starts n 0) = wrote_keeps outward space (get_or starts n 0) s o s₁ o₁ y y₁ l₁ g.room.low h w₁ in
-            let keep : (S : List (Named Tree)) → ReadyAt k s S → ReadyAt k s₁ S = λ S q. ready_keep text t n starts src ends pa pc S k s s₁ kept same q in
-            let tail : recs_from s₁ (j + 1) (end - (j + 1)) ≡ recs_from s (j + 1) (end - (j + 1)) = recs-part s s₁ (get_or starts n 0) (j + 1) (end - (j + 1)) kept (omega (arith, g.within)) in
+            let w₁ : Wrote outward space s o y l₁ s₁ o₁ (Some y₁) = w held now_ready in
+            let same : length s₁ ≡ length s = wrote-store outward space s o s₁ o₁ y (Some y₁) l₁ w₁ in
+            let kept : recs_from s₁ 0 (get_or starts (length t) 0) ≡ recs_from s 0 (get_or starts (length t) 0) = wrote_keeps outward space (get_or starts (length t) 0) s o s₁ o₁ y y₁ l₁ g.room.low w₁ in
+            let keep : (S : List (Named Tree)) → ReadyAt k s S → ReadyAt k s₁ S = λ S q. ready_keep text t starts src ends pa pc S k s s₁ kept same q in
+            let tail : recs_from s₁ (j + 1) (end - (j + 1)) ≡ recs_from s (j + 1) (end - (j + 1)) = recs-part s s₁ (get_or starts (length t) 0) (j + 1) (end - (j + 1)) kept (omega (arith, g.within)) in
             let below : ArgsBelow ((rec_at src k).count - 1) (r ∷ recs_from s (j + 1) (end - (j + 1))) = rw split at g.args in
             record {
               readied = (held, keep held now_ready);
               ready = λ S q. keep S (g.ready S q);
-              room = room_next outward space (get_or starts n 0) s o s₁ o₁ y y₁ l₁ g.room h w₁;
+              room = room_next outward space (get_or starts (length t) 0) s o s₁ o₁ y y₁ l₁ g.room w₁;
               within = g.within;
               begun = begun;
               args = rw tail below.1;
               store_same = same ∙ g.store_same;
-              out_same = wrote-out outward space s o s₁ o₁ y y₁ l₁ w₁ ∙ g.out_same;
+              out_same = wrote-out outward space s o s₁ o₁ y (Some y₁) l₁ w₁ ∙ g.out_same;
               leads = λ S q c e s' o' z v.
-                  g.leads S q c e s' o' z (rw (splits S) (wrote-both outward space s o s₁ o₁ s' o' y y₁ z (l S) (later S) h (w S (g.ready S q)) (rw tail at v)));
+                  g.leads S q c e s' o' z (rw (splits S) (wrote-both outward space s o s₁ o₁ s' o' y y₁ z (l S) (later S) (w S (g.ready S q)) (rw tail at v)));
             }
 
       -- a record is copied
-      module _ (kind : r.kind ≡ 38 → ⊥) (s₁ o₁ : List ℕ) (y₁ : ℕ) (w : Wrote outward space s o y (r ∷ []) s₁ o₁ y₁) where
+      module _ (kind : r.kind ≡ 38 → ⊥) (s₁ o₁ : List ℕ) where
         copied : (S : List (Named Tree)) → fill (argument S k) (recs_from s j (end - j)) ≡ (r ∷ []) ++ later S
         unfolding fill is_macro_arg
         copied S = rw (split, ne_eqb r.kind 38 kind)
 
-        pub scanning_put_full : space < y₁ → Filled outward space text t n starts src ends pa pc k s₀ o₀ m s₁ o₁ y₁
-        scanning_put_full h = part-full s₁ o₁ y₁ (λ S. r ∷ []) (λ S q. w) copied h
+        pub scanning_put_full : Wrote outward space s o y (r ∷ []) s₁ o₁ None → Filled outward space text t starts src ends pa pc k s₀ o₀ m s₁ o₁ None
+        scanning_put_full w = part-full s₁ o₁ (λ S. r ∷ []) copied (λ S q. w)
 
-        put : y₁ ≤ space → Scanning s₀ o₀ k m s₁ o₁ end (j + 1) y₁ from last
-        put h = part s₁ o₁ y₁ (λ S. r ∷ []) (λ S q. w) copied from last g.begun h
+        put : (y₁ : ℕ) → Wrote outward space s o y (r ∷ []) s₁ o₁ (Some y₁) → Scanning s₀ o₀ k m s₁ o₁ end (j + 1) y₁ from last
+        put y₁ w = part s₁ o₁ (λ S. r ∷ []) copied y₁ from last g.begun (λ S q. w)
 
       -- an argument is opened
       module _ (kind : r.kind ≡ 38) where
@@ -245,25 +248,25 @@ module _ (outward : Bool) (space : ℕ) (text t : List ℕ) (n : ℕ) (starts sr
               inside = now_ready.inside;
             }
 
-        module _ (a : ℕ) (child : Child src k (r.word1 + 1) a) (s₁ o₁ : List ℕ) (y₁ : ℕ) (opened : Opened outward space text t n starts src ends pa pc a s o y s₁ o₁ y₁) where
-          wrote : (S : List (Named Tree)) → ReadyAt k s S → Wrote outward space s o y (argument S k r.word1) s₁ o₁ y₁
+        module _ (a : ℕ) (child : Child src k (r.word1 + 1) a) (s₁ o₁ : List ℕ) (v : Maybe ℕ) (opened : Opened outward space text t starts src ends pa pc a s o y s₁ o₁ v) where
+          wrote : (S : List (Named Tree)) → ReadyAt k s S → Wrote outward space s o y (argument S k r.word1) s₁ o₁ v
           unfolding Opened child_at
           wrote S q =
               let e : a ≡ child_at (recs src) k (suc r.word1) = child.at ∙ ap (behind src (k + 1)) (add-one r.word1) in
-              rw (← e) (opened S (child-ready text t n starts src ends pa pc k s S q (r.word1 + 1) a child))
+              rw (← e) (opened S (child-ready text t starts src ends pa pc k s S q (r.word1 + 1) a child))
 
           filled : (S : List (Named Tree)) → fill (argument S k) (recs_from s j (end - j)) ≡ argument S k r.word1 ++ later S
           unfolding fill is_macro_arg
           filled S = rw (split, eq-eqb r.kind 38 kind)
 
-          pub scanning_arg_full : space < y₁ → Filled outward space text t n starts src ends pa pc k s₀ o₀ m s₁ o₁ y₁
-          scanning_arg_full h = part-full s₁ o₁ y₁ (λ S. argument S k r.word1) wrote filled h
+          pub scanning_arg_full : v ≡ None → Filled outward space text t starts src ends pa pc k s₀ o₀ m s₁ o₁ None
+          scanning_arg_full h = part-full s₁ o₁ (λ S. argument S k r.word1) filled (λ S q. rw h at (wrote S q))
 
-          pub scanning_arg : y₁ ≤ space → Scanning s₀ o₀ k m s₁ o₁ end (j + 1) y₁ a (r.word1 + 1)
-          scanning_arg h = part s₁ o₁ y₁ (λ S. argument S k r.word1) wrote filled a (r.word1 + 1) child.at h
+          pub scanning_arg : (y₁ : ℕ) → v ≡ Some y₁ → Scanning s₀ o₀ k m s₁ o₁ end (j + 1) y₁ a (r.word1 + 1)
+          scanning_arg y₁ h = part s₁ o₁ (λ S. argument S k r.word1) filled y₁ a (r.word1 + 1) child.at (λ S q. rw h at (wrote S q))
 
   -- a record is copied: what was written comes first, since the rest is found from it
-  pub scanning_put : (s₀ o₀ : List ℕ) (k m : ℕ) (s o : List ℕ) (end j y from last : ℕ) (r : Rec) (s₁ o₁ : List ℕ) (y₁ : ℕ) → Wrote outward space s o y (r ∷ []) s₁ o₁ y₁
+  pub scanning_put : (s₀ o₀ : List ℕ) (k m : ℕ) (s o : List ℕ) (end j y from last : ℕ) (r : Rec) (s₁ o₁ : List ℕ) (y₁ : ℕ) → Wrote outward space s o y (r ∷ []) s₁ o₁ (Some y₁)
       → r ≡ rec_at s j → (r.kind ≡ 38 → ⊥)
-      → Scanning s₀ o₀ k m s o end j y from last → j < end → y₁ ≤ space → Scanning s₀ o₀ k m s₁ o₁ end (j + 1) y₁ from last
-  scanning_put s₀ o₀ k m s o end j y from last r s₁ o₁ y₁ w is kind g more h = put s₀ o₀ k m s o end j y from last g more r is kind s₁ o₁ y₁ w h
+      → Scanning s₀ o₀ k m s o end j y from last → j < end → Scanning s₀ o₀ k m s₁ o₁ end (j + 1) y₁ from last
+  scanning_put s₀ o₀ k m s o end j y from last r s₁ o₁ y₁ w is kind g more = put s₀ o₀ k m s o end j y from last g more r is kind s₁ o₁ y₁ w

@@ -1,5 +1,5 @@
 -- A record of the source that is no call, as it is written: itself, or a MacroArg where it stands for a parameter.
-use Rattle.std.specs.Prelude.{◌≡◌, List, ◌∷◌, ℕ, suc, ◌+◌, ◌*◌, ◌<◌, ◌≤◌, eqb, length, drop}
+use Rattle.std.specs.Prelude.{◌≡◌, Option as Maybe, Some, None, List, ◌∷◌, ℕ, suc, ◌+◌, ◌<◌, ◌≤◌, eqb, length, drop}
 use Rattle.std.proofs.Math.Option.{Option, none, some}
 use Rattle.trees.specs.Choice.{pick}
 use Rattle.trees.specs.Tree.{Tree, Trees, count, firsts, trees_of}
@@ -7,6 +7,7 @@ use Rattle.records.specs.Slots.{slots, rec_at, recs}
 use Rattle.expansion.specs.Expansion.{Named}
 use Rattle.expansion.specs.Flat.{span, Placed, All, called_at, opened_at}
 use Rattle.grounds.specs.Leaves.{Leaves}
+use Rattle.judging.specs.declared.table.Entry.{Entry}
 use Rattle.judging.specs.Table.{looked}
 use Rattle.opening.specs.Ends.{EndsFrom}
 use Rattle.opening.specs.declared.made.Made.{Made}
@@ -32,16 +33,11 @@ pub record Makeable (src ends : List ℕ) (pa pc k : ℕ) : Type 0 where
   pub ended : EndsFrom (recs src) ends 0
   pub ends-long : slots src ≤ length ends
 
--- what is asked where the call of the record k is looked for among the n of the table
-pub record Callable (t : List ℕ) (n : ℕ) (src : List ℕ) (k : ℕ) : Type 0 where
-  pub located : Located src k
-  pub long : 3 * n ≤ length t
-
--- an index below m that was looked for, or m
-pub record Sought (m : ℕ) (o : Option ℕ) (r : ℕ) : Type 0 where
-  pub upto : r ≤ m
-  pub found : r < m → o ≡ some r
-  pub missing : r ≡ m → o ≡ none
+-- r is the index that was looked for, which is below m, or none
+pub record Sought (m : ℕ) (o : Option ℕ) (r : Maybe ℕ) : Type 0 where
+  pub below : (j : ℕ) → r ≡ Some j → j < m
+  pub found : (j : ℕ) → r ≡ Some j → o ≡ some j
+  pub missing : r ≡ None → o ≡ none
 
 pub record MadeAt (text src : List ℕ) (pa pc k : ℕ) (m : Made) : Type 0 where
   pub opens : (S : List (Named Tree)) (n : ℕ) → called_at text S (rec_at src k) (drop (k + 1) (recs src)) ≡ none
@@ -50,6 +46,6 @@ pub record MadeAt (text src : List ℕ) (pa pc k : ℕ) (m : Made) : Type 0 wher
   pub there : (n : ℕ) → suc n ≤ count (trees_of (drop k (recs src))) → m.rec.count + n ≤ count (trees_of (drop m.next (recs src)))
   pub ends : (n : ℕ) → m.next + span (drop m.next (recs src)) (m.rec.count + n) ≡ k + span (drop k (recs src)) (suc n)
 
--- the number of the extractor that the record k calls among the n of the table, or n
-unfoldable pub call_number : List ℕ → List ℕ → ℕ → List ℕ → ℕ → ℕ
-call_number text t n src k = pick (eqb (rec_at src k).kind 35) (looked text t (rec_at src (k + 1)).word1 0 n) n
+-- the number of the extractor that the record k calls
+unfoldable pub call_number : List ℕ → List Entry → List ℕ → ℕ → Maybe ℕ
+call_number text t src k = pick (eqb (rec_at src k).kind 35) (looked text t (rec_at src (k + 1)).word1) None

@@ -4,12 +4,20 @@ ghost use Rattle.trees.specs.Names.{spelled};
 ghost use Rattle.records.specs.Slots.{rec_at, recs};
 ghost use Rattle.expansion.specs.Templates.{position};
 ghost use Rattle.expansion.specs.Flat.{stands_at};
-ghost use Rattle.opening.specs.Made.{params_at, Params, Located, Makeable, Callable, Sought, MadeAt, call_number};
+ghost use Rattle.opening.specs.Made.{params_at, Params, Located, Makeable, Sought, MadeAt, call_number};
 
-use crate::ends::end_at;
-use judging::names::{look_up, same_name};
+use crate::ends::Forest;
+use judging::names::same_name;
+use judging::table::Extractors;
 use records::rec_at;
 use trees::{Kind, Rec};
+
+// The parameters of a template: the index of the first of them, and how many they are.
+#[derive(Clone, Copy)]
+pub struct Parameters {
+    pub first: usize,
+    pub count: usize,
+}
 
 // A record that is written, and the index of the source at which to go on.
 #[derive(Clone, Copy)]
@@ -18,80 +26,76 @@ pub struct Made {
     pub next: usize,
 }
 
-// The index of the first of the pc parameters from the index pa on that has the name w, or pc.
-fn parameter(text: &[u8], src: &[u8], pa: usize, pc: usize, w: u64) -> usize
-    requires { Params src.now pa pc }
-    ensures { Sought pc (position text.now (spelled text.now w) (params_at src.now pa pc)) result }
+// The number of the first parameter that has the name w.
+fn parameter(text: &[u8], src: &[u8], params: Parameters, w: u64) -> Option<usize>
+    requires { Params src.now params.first params.count }
+    ensures { Sought params.count (position text.now (spelled text.now w) (params_at src.now params.first params.count)) result }
 {
-    let mut j = 0;
-    while j < pc {
-        let p = rec_at(src, pa + j);
+    for j in 0..params.count {
+        let p = rec_at(src, params.first + j);
         if same_name(text, w, p.word1) {
-            return j;
+            return Some(j);
         }
-        j += 1;
     }
-    j
+    None
 }
 
-// The parameter that the record k stands for, or pc.
-fn stands_at(text: &[u8], src: &[u8], pa: usize, pc: usize, k: usize) -> usize
-    requires { Params src.now pa pc × Located src.now k }
-    ensures { Sought pc (stands_at text.now (params_at src.now pa pc) (rec_at src.now k) (drop (k + 1) (recs src.now))) result }
+// The parameter that the record k stands for.
+fn stands_at(text: &[u8], src: &[u8], params: Parameters, k: usize) -> Option<usize>
+    requires params_there { Params src.now params.first params.count }
+    requires located { Located src.now k }
+    ensures { Sought params.count (stands_at text.now (params_at src.now params.first params.count) (rec_at src.now k) (drop (k + 1) (recs src.now))) result }
 {
     let r = rec_at(src, k);
     if r.kind == Kind::PatternVar as u8 {
         let name = rec_at(src, k + 1);
-        return parameter(text, src, pa, pc, name.word1);
+        return parameter(text, src, params, name.word1);
     }
     if r.kind != Kind::PatternBind as u8 {
-        return pc;
+        return None;
     }
     let name = rec_at(src, k + 1);
     let below = rec_at(src, k + 2);
     if below.kind != Kind::PatternWildcard as u8 {
-        return pc;
+        return None;
     }
-    parameter(text, src, pa, pc, name.word1)
+    parameter(text, src, params, name.word1)
 }
 
 // The record k, which is no call, as it is written.
-pub fn made_at(text: &[u8], src: &[u8], ends: &[u32], pa: usize, pc: usize, k: usize) -> Made
-    requires { Makeable src.now ends.now pa pc k }
-    ensures { MadeAt text.now src.now pa pc k result }
+pub fn made_at(text: &[u8], source: &Forest, params: Parameters, k: usize) -> Made
+    requires { Makeable source.now.records.now source.now.ends.now params.first params.count k }
+    ensures { MadeAt text.now source.now.records.now params.first params.count k result }
 {
-    let r = rec_at(src, k);
-    let j = stands_at(text, src, pa, pc, k);
-    if j < pc {
-        let arg = Rec {
+    let r = rec_at(source.records, k);
+    let Some(j) = stands_at(text, source.records, params, k) else {
+        return Made {
+            rec: r,
+            next: k + 1,
+        };
+    };
+    Made {
+        rec: Rec {
             kind: Kind::PatternMacroArg as u8,
             flags: 0,
             count: 0,
             pos: r.pos,
             word1: j as u64,
             word2: 0,
-        };
-        let end = end_at(ends, k);
-        return Made {
-            rec: arg,
-            next: end,
-        };
-    }
-    Made {
-        rec: r,
-        next: k + 1,
+        },
+        next: source.end_at(k),
     }
 }
 
-// The number of the extractor that the record k calls among n, or n.
-pub fn call_at(text: &[u8], table: &[u64], n: usize, src: &[u8], k: usize) -> usize
-    requires { Callable table.now n src.now k }
-    ensures { (result ≡ call_number text.now table.now n src.now k) × (result ≤ n) }
+// The number of the extractor that the record k calls.
+pub fn call_at(known: &Extractors, src: &[u8], k: usize) -> Option<usize>
+    requires { Located src.now k }
+    ensures { result ≡ call_number known.now.text.now known.now.rows.now src.now k }
 {
     let r = rec_at(src, k);
     if r.kind != Kind::PatternTerm as u8 {
-        return n;
+        return None;
     }
     let name = rec_at(src, k + 1);
-    look_up(text, table, n, name.word1)
+    known.look_up(name.word1)
 }

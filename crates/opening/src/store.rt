@@ -1,78 +1,65 @@
 // Filling the store with the opened templates, in list order.
-ghost use Rattle.std.specs.Prelude.{◌≡◌, ◌+◌, ◌*◌, ◌≤◌, ◌<◌, length, get_or};
+ghost use Rattle.std.specs.Prelude.{◌≡◌, ◌≤◌, ◌<◌, length, get_or};
 ghost use Rattle.records.specs.Slots.{slots};
 ghost use Rattle.opening.specs.Store.{Source, Stored};
 
-use crate::walk::open_one;
+use crate::Side;
+use crate::ends::Forest;
+use crate::made::Parameters;
+use crate::walk::Opening;
+use judging::table::Extractors;
 
-// The first template begins at the slot 0.
-fn begin(starts: &mut [usize])
-    requires { 0 < length starts.old }
-    ensures { get_or starts.new 0 0 ≡ 0 }
+// Fills the store, where it is said that the first template begins at the slot 0: how many records it then has, if there is space.
+fn fill_from(
+    known: &Extractors,
+    source: &Forest,
+    starts: &mut [usize],
+    store: &mut [u8],
+    out: &mut [u8],
+    space: usize,
+) -> Option<usize>
+    requires sourced { Source known.now.text.now known.now.rows.now source.now.records.now source.now.ends.now }
+    requires starts_long { length known.now.rows.now < length starts.old }
+    requires space_there { space ≤ slots store.old }
+    requires space_small { space ≤ 65536 }
+    requires begun { get_or starts.old 0 0 ≡ 0 }
+    ensures { Stored space known.now.text.now known.now.rows.now source.now.records.now store.old out.old starts.new store.new out.new result }
+{
+    let mut used = 0;
+    for x in 0..known.rows.len() {
+        let row = known.rows[x];
+        let opening = Opening {
+            known: Extractors::first_of(known.text, known.rows, x),
+            starts,
+            source: *source,
+            params: Parameters {
+                first: row.place + 2,
+                count: row.arity,
+            },
+            to: Side::Store,
+            space,
+        };
+        used = opening.open_one(store, out, row.place + 2 + row.arity, used)?;
+        starts[x + 1] = used;
+    }
+    Some(used)
+}
+
+// Fills the store: how many records it then has, if there is space.
+pub fn fill_store(
+    known: &Extractors,
+    source: &Forest,
+    starts: &mut [usize],
+    store: &mut [u8],
+    out: &mut [u8],
+    space: usize,
+) -> Option<usize>
+    requires sourced { Source known.now.text.now known.now.rows.now source.now.records.now source.now.ends.now }
+    requires starts_long { length known.now.rows.now < length starts.old }
+    requires space_there { space ≤ slots store.old }
+    requires space_small { space ≤ 65536 }
+    ensures { Stored space known.now.text.now known.now.rows.now source.now.records.now store.old out.old starts.new store.new out.new result }
 {
     starts[0] = 0;
-}
-
-// Fills the store, where it is said that the first template begins at the slot 0.
-fn fill_from(
-    text: &[u8],
-    table: &[u64],
-    n: usize,
-    defs: &[u8],
-    ends: &[u32],
-    starts: &mut [usize],
-    store: &mut [u8],
-    out: &mut [u8],
-    space: usize,
-) -> usize
-    requires { Source text.now table.now n defs.now ends.now × (n < length starts.old) × (space ≤ slots store.old) × (space ≤ 65536) × (get_or starts.old 0 0 ≡ 0) }
-    ensures { Stored space text.now table.now n defs.now store.old out.old starts.new store.new out.new result }
-{
-    let mut x = 0;
-    let mut used = 0;
-    while x < n {
-        let pc = table[3 * x + 1] as usize;
-        let place = table[3 * x + 2] as usize;
-        let y = open_one(
-            text,
-            table,
-            x,
-            starts,
-            defs,
-            ends,
-            place + 2,
-            pc,
-            store,
-            out,
-            false,
-            place + 2 + pc,
-            used,
-            space,
-        );
-        if space < y {
-            return y;
-        }
-        x += 1;
-        starts[x] = y;
-        used = y;
-    }
-    used
-}
-
-pub fn fill_store(
-    text: &[u8],
-    table: &[u64],
-    n: usize,
-    defs: &[u8],
-    ends: &[u32],
-    starts: &mut [usize],
-    store: &mut [u8],
-    out: &mut [u8],
-    space: usize,
-) -> usize
-    requires { Source text.now table.now n defs.now ends.now × (n < length starts.old) × (space ≤ slots store.old) × (space ≤ 65536) }
-    ensures { Stored space text.now table.now n defs.now store.old out.old starts.new store.new out.new result }
-{
-    begin(starts);
-    fill_from(text, table, n, defs, ends, starts, store, out, space)
+    fill_from(known, source, starts, store, out, space)
 }

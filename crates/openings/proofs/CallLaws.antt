@@ -20,10 +20,11 @@ use Rattle.grounds.specs.Stages.{refusal}
 use Rattle.grounds.specs.Opening.{tree_of, counts, counts_of, Fits, Outcome, accept, refuse, opening}
 use Rattle.judging.specs.Whole.{DefinitionsShaped, PatternShaped}
 use Rattle.judging.proofs.ShapeLaws.{definitions_shaped, pattern_shaped}
-use Rattle.opening.specs.Answers.{Outputs, outputs, number_of, Countable, answer_of, space_of, space_in, begun}
+use Rattle.opening.specs.Answers.{Answer, numbered, Outputs, outputs, number_of, Countable, answer_of, space_of, space_in, begun}
 use Rattle.opening.specs.Work.{Begin, Answers}
-use Rattle.opening.specs.declared.Answer.{Answer}
-use Rattle.opening.specs.declared.Answer.TheVariants.{Accepted, Refused}
+use Rattle.std.specs.Prelude.{Ok, Err}
+use Rattle.records.specs.Grounds as grounds
+use Rattle.judging.specs.declared.Flaw.{Flaw}
 use Rattle.opening.proofs.AnswerLaws.{space-slots}
 use Rattle.templating.specs.Calls.{sizes, lent}
 use Rattle.templating.proofs.CallLaws.{short, lent-size, lent-first, lent-second, lent_right}
@@ -36,30 +37,30 @@ unfolding number number_of answer_of filled zeros
 stops code place r s o s' o' a b c = record { returns = c; holds = rw (a, b) }
 
 pub keeps : (n : Counts) (k m r : ℕ) (s o s' o' : List ℕ) → k ≡ n.store → m ≡ n.output → s' ≡ take (k * 24) s ++ replicate (length s - k * 24) 0 → o' ≡ take (m * 24) o ++ replicate (length o - m * 24) 0 → r ≡ accepted m
-    → Finished (Accepted n) (outputs s o) (outputs s' o') r
+    → Finished (Ok n) (outputs s o) (outputs s' o') r
 unfolding kept kept_by number_of
 keeps n k m r s o s' o' e f a b c = record { returns = rw (← f) c; holds = rw (← e, ← f, a, b) }
 
-pub finish_kept : (a : Answer) (n : Counts) (r : ℕ) (s o s' o' : List ℕ) → a ≡ Accepted n → Finished (Accepted n) (outputs s o) (outputs s' o') r → Finished a (outputs s o) (outputs s' o') r
+pub finish_kept : (a : Answer) (n : Counts) (r : ℕ) (s o s' o' : List ℕ) → a ≡ Ok n → Finished (Ok n) (outputs s o) (outputs s' o') r → Finished (numbered a) (outputs s o) (outputs s' o') r
 finish_kept a n r s o s' o' e h = rw e h
 
-pub finish_refused : (a : Answer) (code place r : ℕ) (s o s' o' : List ℕ) → a ≡ Refused code place → Left (refuse (refusal code place)) (outputs s o) (outputs s' o') r → Finished a (outputs s o) (outputs s' o') r
+pub finish_refused : (a : Answer) (f : Flaw) (place r : ℕ) (s o s' o' : List ℕ) → a ≡ Err f → place ≡ f.place → Left (refuse (refusal (grounds.number f.reason) place)) (outputs s o) (outputs s' o') r → Finished (numbered a) (outputs s o) (outputs s' o') r
 unfolding number number_of answer_of filled kept_by
-finish_refused a code place r s o s' o' e h = rw e (record { returns = h.returns; holds = h.holds })
+finish_refused a f place r s o s' o' e p h = rw e (record { returns = h.returns ∙ rw p; holds = h.holds })
 
-few : (n : Counts) → Countable (Accepted n) → Fits (counts 65536 65536) n
+few : (n : Counts) → Countable (Ok n) → Fits (counts 65536 65536) n
 unfolding Countable
 few n c = c
 
-pub countable-kept : (a : Answer) (n : Counts) → a ≡ Accepted n → Countable a → Fits (counts 65536 65536) n
+pub countable-kept : (a : Answer) (n : Counts) → a ≡ Ok n → Countable a → Fits (counts 65536 65536) n
 countable-kept a n e c = few n (rw e at c)
 
-small : (code place : ℕ) → Countable (Refused code place) → place < 131072
+small : (f : Flaw) → Countable (Err f) → f.place < 131072
 unfolding Countable
-small code place c = c
+small f c = c
 
-pub place-fits : (a : Answer) (code place : ℕ) → a ≡ Refused code place → Countable a → FitsIn w32 place
-place-fits a code place e c = omega (arith, small code place (rw e at c))
+pub place-fits : (a : Answer) (f : Flaw) → a ≡ Err f → Countable a → FitsIn w32 f.place
+place-fits a f e c = omega (arith, small f (rw e at c))
 
 -- ---- the work
 
@@ -83,7 +84,7 @@ module _ (text defs p s o s₁ o₁ : List ℕ) where
       record { returns = d.returns; holds = d.holds ∙ rw (cleared s s₁ w.templates p f.store, cleared o o₁ w.pattern q f.output) }
   ended (refuse e) r b₂ h d i j = record { returns = d.returns; holds = d.holds ∙ rw (i, j) }
 
-  pub answers-ended : (a : Answer) (r : ℕ) (s₂ o₂ : List ℕ) → Answers text defs p (outputs s o) (outputs s₁ o₁) a → Finished a (outputs s₁ o₁) (outputs s₂ o₂) r → length s₁ ≡ length s → length o₁ ≡ length o
+  pub answers-ended : (a : Answer) (r : ℕ) (s₂ o₂ : List ℕ) → Answers text defs p (outputs s o) (outputs s₁ o₁) a → Finished (numbered a) (outputs s₁ o₁) (outputs s₂ o₂) r → length s₁ ≡ length s → length o₁ ≡ length o
       → Left (opening text (trees_of (recs defs)) (tree_of (recs p)) (space_in (outputs s o))) (outputs s o) (outputs s₂ o₂) r
   answers-ended a r s₂ o₂ h f i j = ended (opening text (trees_of (recs defs)) (tree_of (recs p)) (space_in (outputs s o))) r (outputs s₂ o₂) h.records (rw h.answer at f) i j
 

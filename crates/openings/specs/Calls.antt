@@ -1,14 +1,12 @@
 -- What isle_open answers and leaves in its outputs, for every input: refusals in the order 7, 1, 3, then the grounds, then 6.
-use Rattle.std.specs.Prelude.{ℕ, ◌-◌, ◌*◌, ◌≡◌, List, ◌++◌, length, take, replicate}
+use Rattle.std.specs.Prelude.{ℕ, ◌-◌, ◌*◌, ◌≡◌, Ok, Err, List, ◌++◌, length, take, replicate}
 use Rattle.trees.specs.Tree.{trees_of}
 use Rattle.records.specs.Slots.{recs}
 use Rattle.forms.specs.Kinds.{definition, pattern}
 use Rattle.forms.specs.Forms.{is_one, is_many}
 use Rattle.grounds.specs.Stages.{refusal}
 use Rattle.grounds.specs.Opening.{tree_of, Outcome, accept, refuse, opening}
-use Rattle.opening.specs.Answers.{Outputs, outputs, space_in, begun, number_of, answer_of}
-use Rattle.opening.specs.declared.Answer.{Answer}
-use Rattle.opening.specs.declared.Answer.TheVariants.{Accepted, Refused}
+use Rattle.opening.specs.Answers.{Answered, Outputs, outputs, space_in, begun, number_of, answer_of}
 use Rattle.templating.specs.Calls.{sizes, lent}
 
 abbrev pub stopped : ℕ → Outcome
@@ -45,11 +43,11 @@ unfoldable pub kept : ℕ → List ℕ → List ℕ
 kept n l = take (n * 24) l ++ replicate (length l - n * 24) 0
 
 -- what an answer leaves of the outputs
-unfoldable pub kept_by : Answer → Outputs → Outputs
-kept_by (Accepted n) b = outputs (kept n.store b.store) (kept n.output b.output)
-kept_by (Refused code place) b = zeros b
+unfoldable pub kept_by : Answered → Outputs → Outputs
+kept_by (Ok n) b = outputs (kept n.store b.store) (kept n.output b.output)
+kept_by (Err r) b = zeros b
 
 -- the number returned for an answer, and what is left
-pub record Finished (a : Answer) (b b' : Outputs) (r : ℕ) : Type 0 where
+pub record Finished (a : Answered) (b b' : Outputs) (r : ℕ) : Type 0 where
   pub returns : r ≡ number_of a
   pub holds : b' ≡ kept_by a b

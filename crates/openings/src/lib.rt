@@ -1,44 +1,37 @@
 // Opening for lent lists: the checks 7, 1 and 3, the work, and what the store and the output then hold.
 #![tactic(auto)]
 
-ghost use Rattle.std.specs.Prelude.{◌≡◌, ◌≤◌, max, length};
+ghost use Rattle.std.specs.Prelude.{◌≤◌, length};
 ghost use Rattle.trees.specs.Tree.{trees_of};
 ghost use Rattle.records.specs.Slots.{slots, recs};
 ghost use Rattle.records.specs.Grounds.{number};
 ghost use Rattle.grounds.specs.Stages.{refusal};
 ghost use Rattle.grounds.specs.Opening.{tree_of, counts, Fits, refuse, opening};
 ghost use Rattle.judging.specs.Whole.{DefinitionsShaped, PatternShaped};
-ghost use Rattle.opening.specs.Answers.{outputs, space_in, Countable};
-ghost use Rattle.opening.specs.declared.Answer.TheVariants.{Accepted};
+ghost use Rattle.opening.specs.Answers.{numbered, outputs, space_in, Countable};
 ghost use Rattle.openings.specs.Calls.{opening_of, Left, Finished};
 
 use forms::judge::{definitions, one_pattern};
 use grounds::Counts;
-use opening::Answer;
+use judging::Flaw;
 use opening::whole::open_into;
-use records::{Ground, accepted, refused};
+use records::{Ground, accepted, refused_on, slots};
 use templating::sizes;
 use words::{clear, clear_from};
 
-fn number(reason: Ground) -> u8
-    ensures { result ≡ number reason }
-{
-    reason as u8
-}
-
 // A refusal, and outputs of zeros.
-fn refuse(store: &mut [u8], out: &mut [u8], code: u8, place: u32) -> u64
-    ensures { Left (refuse (refusal code place)) (outputs store.old out.old) (outputs store.new out.new) result }
+fn refuse(store: &mut [u8], out: &mut [u8], reason: Ground, place: u32) -> u64
+    ensures { Left (refuse (refusal (number reason) place)) (outputs store.old out.old) (outputs store.new out.new) result }
 {
     clear(store);
     clear(out);
-    refused(code, place)
+    refused_on(reason, place)
 }
 
 // Of each output as many records as it got are kept.
 fn keep(store: &mut [u8], out: &mut [u8], n: Counts) -> u64
     requires { Fits (counts 65536 65536) n }
-    ensures { Finished (Accepted n) (outputs store.old out.old) (outputs store.new out.new) result }
+    ensures { Finished (Ok n) (outputs store.old out.old) (outputs store.new out.new) result }
 {
     let k = n.store;
     let m = n.output;
@@ -48,17 +41,13 @@ fn keep(store: &mut [u8], out: &mut [u8], n: Counts) -> u64
 }
 
 // The end of a call: what it leaves in the outputs, and what it returns.
-fn finish(store: &mut [u8], out: &mut [u8], a: Answer) -> u64
+fn finish(store: &mut [u8], out: &mut [u8], a: Result<Counts, Flaw>) -> u64
     requires { Countable a }
-    ensures { Finished a (outputs store.old out.old) (outputs store.new out.new) result }
+    ensures { Finished (numbered a) (outputs store.old out.old) (outputs store.new out.new) result }
 {
     match a {
-        Answer::Accepted(n) => {
-            return keep(store, out, n);
-        }
-        Answer::Refused(code, place) => {
-            return refuse(store, out, code, place as u32);
-        }
+        Ok(n) => keep(store, out, n),
+        Err(flaw) => refuse(store, out, flaw.reason, flaw.place as u32),
     }
 }
 
@@ -71,59 +60,50 @@ fn open_by(
     store: &mut [u8],
     out: &mut [u8],
 ) -> u64
-    requires { DefinitionsShaped defs.now × PatternShaped pattern.now × (slots defs.now ≤ length ends.old) × (slots pattern.now ≤ length ends.old) }
+    requires definitions { DefinitionsShaped defs.now }
+    requires one_pattern { PatternShaped pattern.now }
+    requires defs_fit { slots defs.now ≤ length ends.old }
+    requires pattern_fits { slots pattern.now ≤ length ends.old }
     ensures { Left (opening text.now (trees_of (recs defs.now)) (tree_of (recs pattern.now)) (space_in (outputs store.old out.old))) (outputs store.old out.old) (outputs store.new out.new) result }
 {
     let a = open_into(text, defs, pattern, ends, store, out);
     finish(store, out, a)
 }
 
-// With a table for as many records as some rules have.
-fn open_little(text: &[u8], defs: &[u8], pattern: &[u8], store: &mut [u8], out: &mut [u8]) -> u64
-    requires { DefinitionsShaped defs.now × PatternShaped pattern.now × (slots defs.now ≤ 256) × (slots pattern.now ≤ 256) }
+// The same, with a table for lists of at most N records, which no other call makes room for.
+#[inline(never)]
+fn open_upto<const N: usize>(
+    text: &[u8],
+    defs: &[u8],
+    pattern: &[u8],
+    store: &mut [u8],
+    out: &mut [u8],
+) -> u64
+    requires definitions { DefinitionsShaped defs.now }
+    requires one_pattern { PatternShaped pattern.now }
+    requires defs_fit { slots defs.now ≤ N }
+    requires pattern_fits { slots pattern.now ≤ N }
+    requires on_the_stack { N ≤ 65536 }
     ensures { Left (opening text.now (trees_of (recs defs.now)) (tree_of (recs pattern.now)) (space_in (outputs store.old out.old))) (outputs store.old out.old) (outputs store.new out.new) result }
 {
-    let mut ends = [0u32; 256];
+    let mut ends = [0u32; N];
     open_by(text, defs, pattern, &mut ends, store, out)
-}
-
-// With a table for few records.
-fn open_few(text: &[u8], defs: &[u8], pattern: &[u8], store: &mut [u8], out: &mut [u8]) -> u64
-    requires { DefinitionsShaped defs.now × PatternShaped pattern.now × (slots defs.now ≤ 4096) × (slots pattern.now ≤ 4096) }
-    ensures { Left (opening text.now (trees_of (recs defs.now)) (tree_of (recs pattern.now)) (space_in (outputs store.old out.old))) (outputs store.old out.old) (outputs store.new out.new) result }
-{
-    let mut ends = [0u32; 4096];
-    open_by(text, defs, pattern, &mut ends, store, out)
-}
-
-// With a table for any lists.
-fn open_many(text: &[u8], defs: &[u8], pattern: &[u8], store: &mut [u8], out: &mut [u8]) -> u64
-    requires { DefinitionsShaped defs.now × PatternShaped pattern.now }
-    ensures { Left (opening text.now (trees_of (recs defs.now)) (tree_of (recs pattern.now)) (space_in (outputs store.old out.old))) (outputs store.old out.old) (outputs store.new out.new) result }
-{
-    let mut ends = [0u32; 65536];
-    open_by(text, defs, pattern, &mut ends, store, out)
-}
-
-fn greater(a: usize, b: usize) -> usize
-    ensures { result ≡ max a b }
-{
-    if a < b { b } else { a }
 }
 
 // Definitions and a pattern that are of their kind. A small table is filled with zeros in less time than a large one.
 fn open_judged(text: &[u8], defs: &[u8], pattern: &[u8], store: &mut [u8], out: &mut [u8]) -> u64
-    requires { DefinitionsShaped defs.now × PatternShaped pattern.now }
+    requires definitions { DefinitionsShaped defs.now }
+    requires one_pattern { PatternShaped pattern.now }
     ensures { Left (opening text.now (trees_of (recs defs.now)) (tree_of (recs pattern.now)) (space_in (outputs store.old out.old))) (outputs store.old out.old) (outputs store.new out.new) result }
 {
-    let records = greater(defs.len() / 24, pattern.len() / 24);
+    let records = slots(defs).max(slots(pattern));
     if records <= 256 {
-        return open_little(text, defs, pattern, store, out);
+        return open_upto::<256>(text, defs, pattern, store, out);
     }
     if records <= 4096 {
-        return open_few(text, defs, pattern, store, out);
+        return open_upto::<4096>(text, defs, pattern, store, out);
     }
-    open_many(text, defs, pattern, store, out)
+    open_upto::<65536>(text, defs, pattern, store, out)
 }
 
 // Any lent lists, any text, any store, any output.
@@ -131,13 +111,13 @@ pub fn open(text: &[u8], defs: &[u8], pattern: &[u8], store: &mut [u8], out: &mu
     ensures { Left (opening_of text.now defs.now pattern.now (outputs store.old out.old)) (outputs store.old out.old) (outputs store.new out.new) result }
 {
     if let Err(reason) = sizes(text.len(), defs.len(), pattern.len()) {
-        return refuse(store, out, number(reason), 0);
+        return refuse(store, out, reason, 0);
     }
     if !definitions(defs, text.len()) {
-        return refuse(store, out, 3, 0);
+        return refuse(store, out, Ground::MalformedList, 0);
     }
     if !one_pattern(pattern, text.len()) {
-        return refuse(store, out, 3, 0);
+        return refuse(store, out, Ground::MalformedList, 0);
     }
     open_judged(text, defs, pattern, store, out)
 }

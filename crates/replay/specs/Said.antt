@@ -7,6 +7,8 @@ use Rattle.texts.specs.TextReading.{text_reading}
 use Rattle.templating.specs.Calls as lists
 use Rattle.opening.specs.Answers.{Outputs, outputs}
 use Rattle.openings.specs.Calls as opens
+use Rattle.replay.specs.declared.open_cases.Answered.{Answered}
+use Rattle.replay.specs.declared.output_cases.Lent.{Lent}
 use Rattle.replay.specs.declared.output_cases.Entry.{Entry}
 use Rattle.replay.specs.declared.output_cases.Entry.TheVariants.{Read, Text, Make, Fill}
 
@@ -40,6 +42,10 @@ said Text text first second end n = of_reading (text_reading text (n / 24)) n
 said Make text first second end n = of_call (lists.making text first second (lent n)) n
 said Fill text first second end n = of_call (lists.substituting text first second (lent n)) n
 
+-- of what is lent
+abbrev pub said_of : Lent → ℕ → Said
+said_of c n = said c.entry c.text.now c.first.now c.second.now c.end n
+
 -- ---- a store and an output
 
 pub record SaidBoth : Type 0 where
@@ -62,3 +68,7 @@ of_outcome c b = of_outputs (opens.number c) (opens.filled b c)
 -- of a text, definitions and a pattern, with a store of n bytes and an output of m bytes
 unfoldable pub opened : List ℕ → List ℕ → List ℕ → ℕ → ℕ → SaidBoth
 opened text defs patt n m = of_outcome (opens.opening_of text defs patt (outputs (lent n) (lent m))) (outputs (lent n) (lent m))
+
+-- of what an answer is stored of
+abbrev pub opened_of : Answered → ℕ → ℕ → SaidBoth
+opened_of c n m = opened c.text.now c.defs.now c.pattern.now n m

@@ -1,9 +1,10 @@
 // The files of answers, each replayed to its end.
 use crate::output_cases::Entry;
-use crate::tallies::{Step, Tally, write};
+use crate::tallies::{Step, Tally};
 use crate::{open_cases, output_cases};
 use std::fs;
 use std::io::{self, BufRead, BufReader};
+use std::ops::ControlFlow;
 use std::rt::Files;
 
 // What a file holds cases of: an entry with one output, or opening.
@@ -14,7 +15,7 @@ enum Kind {
 }
 
 fn next_case(
-    rt: &impl Print,
+    rt: &(impl Print + Alloc),
     cases: &mut impl BufRead,
     kind: Kind,
     tally: Tally,
@@ -25,18 +26,16 @@ fn next_case(
     }
 }
 
-// Nothing says that a file ends, so the turns are counted down from a number that no file uses up.
-fn all_cases(rt: &impl Print, cases: &mut impl BufRead, kind: Kind) -> io::Result<Tally> {
-    let mut s = Step {
-        tally: Tally::none(),
-        more: true,
-    };
-    let mut turns: u64 = 1000000000;
-    while 0 < turns && s.more {
-        s = next_case(rt, cases, kind, s.tally)?;
-        turns -= 1;
+// Nothing says that a file ends, so the turns are counted up to a number that no file uses up.
+fn all_cases(rt: &(impl Print + Alloc), cases: &mut impl BufRead, kind: Kind) -> io::Result<Tally> {
+    let mut tally = Tally::none();
+    for _ in 0..1000000000u64 {
+        match next_case(rt, cases, kind, tally)? {
+            ControlFlow::Continue(more) => tally = more,
+            ControlFlow::Break(last) => return Ok(last),
+        }
     }
-    Ok(s.tally)
+    Ok(tally)
 }
 
 fn replay(
@@ -48,31 +47,31 @@ fn replay(
     match fs::open(rt, name) {
         Ok(file) => {
             let mut cases = BufReader::new(rt.alloc(), file)?;
-            write(rt, label, all_cases(rt, &mut cases, kind)?)
+            let tally = all_cases(rt, &mut cases, kind)?;
+            println!(rt; "{label}: {tally}")
         }
         Err(_) => println!(rt; "{name}: cannot be opened"),
     }
 }
 
 pub fn replay_all(rt: &(impl Files + Print + Alloc)) -> io::Result<()> {
-    replay(rt, "read.answers", "reading: ", Kind::Output(Entry::Read))?;
-    replay(
-        rt,
-        "text.answers",
-        "reading text: ",
-        Kind::Output(Entry::Text),
-    )?;
-    replay(
-        rt,
-        "template.answers",
-        "template making: ",
-        Kind::Output(Entry::Make),
-    )?;
-    replay(
-        rt,
-        "substitute.answers",
-        "substitution: ",
-        Kind::Output(Entry::Fill),
-    )?;
-    replay(rt, "open.answers", "opening: ", Kind::Open)
+    let files = [
+        ("read.answers", "reading", Kind::Output(Entry::Read)),
+        ("text.answers", "reading text", Kind::Output(Entry::Text)),
+        (
+            "template.answers",
+            "template making",
+            Kind::Output(Entry::Make),
+        ),
+        (
+            "substitute.answers",
+            "substitution",
+            Kind::Output(Entry::Fill),
+        ),
+        ("open.answers", "opening", Kind::Open),
+    ];
+    for (name, label, kind) in files {
+        replay(rt, name, label, kind)?;
+    }
+    Ok(())
 }

@@ -1,45 +1,36 @@
 // Outputs before and after a call.
-ghost use Rattle.std.specs.Prelude.{◌≡◌, slice_index};
+ghost use Rattle.std.specs.Prelude.{◌≡◌, ◌==◌};
+ghost use Rattle.std.specs.List.{list_all};
 ghost use Rattle.replay.specs.Agreed.{held, agreed};
 ghost use Rattle.replay.specs.Counted.{without_space};
 ghost use Rattle.replay.specs.Said.{says};
 
-use records::refused;
+use records::{Ground, refused_on};
+use words::same;
 
 // Bytes that no answer leaves.
 pub fn prefill(out: &mut [u8]) {
-    let mut i = 0;
-    while i < out.len() {
-        out[i] = 0xEE;
-        i += 1;
-    }
+    out.fill(0xEE);
 }
 
-// The byte at i, and 0 after the end.
-fn byte_or_zero(s: &[u8], i: usize) -> u8
-    ensures { result ≡ slice_index s.now i }
+fn zeros(bytes: &[u8]) -> bool
+    ensures { result ≡ list_all (λ b. b == 0) bytes.now }
 {
-    if i < s.len() {
-        return s[i];
-    }
-    0
+    bytes.iter().all(|byte| *byte == 0)
 }
 
 // Whether the output holds the records and then zeros to its end.
 pub fn holds(out: &[u8], records: &[u8]) -> bool
     ensures { result ≡ held out.now records.now }
 {
-    if out.len() < records.len() {
+    let n = records.len();
+    if out.len() < n {
         return false;
     }
-    let mut i = 0;
-    while i < out.len() {
-        if out[i] != byte_or_zero(records, i) {
-            return false;
-        }
-        i += 1;
+    if !same(&out[..n], records) {
+        return false;
     }
-    true
+    zeros(&out[n..])
 }
 
 // Whether that number is the answer, and the output holds the records and then zeros to its end.
@@ -57,7 +48,7 @@ pub fn without_space(answer: u64) -> u64
     ensures { result ≡ without_space answer }
 {
     if answer < 72057594037927936 {
-        return refused(6, 0);
+        return refused_on(Ground::NoSpace, 0);
     }
     answer
 }

@@ -1,14 +1,11 @@
-use Rattle.openings.proofs.CallLaws.{finish_kept, finish_refused, countable-kept, place-fits}
+use Rattle.openings.proofs.CallLaws.{finish_refused, countable-kept, place-fits}
 use Rattle.openings.proofs.finish.Goals as goal
 
 pub keep-requires : goal.keep-requires
 keep-requires c = search countable-kept
 
-pub returns-in-Accepted : goal.returns-in-Accepted
-returns-in-Accepted c = search finish_kept
+pub overflow_cast-flaw : goal.overflow_cast-flaw
+overflow_cast-flaw c = search place-fits
 
-pub overflow_cast-place : goal.overflow_cast-place
-overflow_cast-place c = search place-fits
-
-pub returns-in-Refused : goal.returns-in-Refused
-returns-in-Refused c = search finish_refused
+pub returns-in-Err : goal.returns-in-Err
+returns-in-Err c = search finish_refused

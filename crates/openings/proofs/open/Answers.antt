@@ -6,7 +6,7 @@ use Rattle.openings.proofs.open.Goals as goal
 
 pub returns-in-Err : goal.returns-in-Err
 unfolding opening_of
-returns-in-Err c = wrong_size _ _ _ _ _ _ c.in-Err.ensures _ _ (positive c.in-Err.reason) (rw c.number.ensures at c.refuse.ensures)
+returns-in-Err c = wrong_size _ _ _ _ _ _ c.in-Err.ensures _ _ (positive c.in-Err.reason) c.refuse.ensures
 
 pub definitions-requires : goal.definitions-requires
 definitions-requires c = short-first _ _ _ _ c.in_default.ensures refl
@@ -23,7 +23,10 @@ unfolding opening_of
 returns-then-not-one_pattern c = wrong_second _ _ _ _ _ _ c.in_default.ensures _ _ _ _ refl c.definitions.ensures c.if-not-definitions.false c.one_pattern.ensures c.if-not-one_pattern.true c.refuse-then-not-one_pattern.ensures
 
 pub open_judged-requires : goal.open_judged-requires
-open_judged-requires c = (first_shaped _ _ _ _ c.in_default.ensures refl _ _ refl c.definitions.ensures c.if-not-definitions.false, second_shaped _ _ _ _ c.in_default.ensures refl _ _ refl c.one_pattern.ensures c.if-not-one_pattern.false)
+open_judged-requires c = record {
+  definitions = first_shaped _ _ _ _ c.in_default.ensures refl _ _ refl c.definitions.ensures c.if-not-definitions.false;
+  one_pattern = second_shaped _ _ _ _ c.in_default.ensures refl _ _ refl c.one_pattern.ensures c.if-not-one_pattern.false;
+}
 
 pub returns : goal.returns
 unfolding opening_of

@@ -1,8 +1,8 @@
 use Rattle.judging.proofs.CallLaws.{call_second, call_plain, call_number_lem}
 use Rattle.judging.proofs.calls.judge_call.Goals as goal
 
-pub returns-then-r-ne35 : goal.returns-then-r-ne35
-returns-then-r-ne35 c = search call_plain
+pub returns-then-r : goal.returns-then-r
+returns-then-r c = search call_plain
 
 pub rec_at-name-requires : goal.rec_at-name-requires
 rec_at-name-requires c = search call_second

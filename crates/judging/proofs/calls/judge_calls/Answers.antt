@@ -1,16 +1,13 @@
 use native.Mathlib.Omega.{arith}
 use borrow.Author.Rules.{rules}
-use Rattle.judging.proofs.ScanLaws.{scanning_start, scanning_end, scanning_inside, scanning_flawed, scanning_next, scanning_few, scanning_on, scanning_less}
+use Rattle.judging.proofs.ScanLaws.{scanning_end, scanning_inside, scanning_flawed, scanning_next, scanning_few, scanning_on, scanning_less}
 use Rattle.judging.proofs.calls.judge_calls.Goals as goal
 
-pub loop-todo-init : goal.loop-todo-init
-loop-todo-init c = search scanning_start
+pub judge_call-requires : goal.judge_call-requires
+judge_call-requires c = search (rules, scanning_inside)
 
-pub judge_call-f-requires : goal.judge_call-f-requires
-judge_call-f-requires c = search (rules, scanning_inside)
-
-pub returns-then-f-ne0 : goal.returns-then-f-ne0
-returns-then-f-ne0 c = search scanning_flawed
+pub returns-in-Some : goal.returns-in-Some
+returns-in-Some c = search scanning_flawed
 
 pub rec_at-r-requires : goal.rec_at-r-requires
 rec_at-r-requires c = search scanning_inside

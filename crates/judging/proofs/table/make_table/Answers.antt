@@ -1,20 +1,17 @@
-use Rattle.judging.proofs.TableLaws.{making-start, making-end, making_less, making-other, making-many, making-row, making-next}
+use Rattle.judging.proofs.TableLaws.{making-end, making_less, making-other, making-many, making-row, making-next}
 use Rattle.judging.proofs.table.make_table.Goals as goal
 
-pub loop-i-init : goal.loop-i-init
-loop-i-init c = search making-start
+pub loop-i-smaller-then-r : goal.loop-i-smaller-then-r
+loop-i-smaller-then-r c = search making_less
 
-pub loop-i-smaller-then-r-ne19 : goal.loop-i-smaller-then-r-ne19
-loop-i-smaller-then-r-ne19 c = search making_less
+pub loop-i-preserved-then-r : goal.loop-i-preserved-then-r
+loop-i-preserved-then-r c = search making-other
 
-pub loop-i-preserved-then-r-ne19 : goal.loop-i-preserved-then-r-ne19
-loop-i-preserved-then-r-ne19 c = search making-other
+pub returns-then-n-eq-MOST : goal.returns-then-n-eq-MOST
+returns-then-n-eq-MOST c = search (making-many, c.loop-i.invariant)
 
-pub returns-then-n-eq256 : goal.returns-then-n-eq256
-returns-then-n-eq256 c = search (making-many, c.loop-i.invariant)
-
-pub add_extractor-requires : goal.add_extractor-requires
-add_extractor-requires c = search (making-row, c.loop-i.invariant)
+pub entry_at-requires : goal.entry_at-requires
+entry_at-requires c = search (making-row, c.loop-i.invariant)
 
 pub loop-i-smaller : goal.loop-i-smaller
 loop-i-smaller c = search making_less

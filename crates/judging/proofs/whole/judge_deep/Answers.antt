@@ -1,9 +1,5 @@
-use Rattle.std.proofs.Common.{refl, arith}
-use Rattle.judging.proofs.WholeLaws.{deep-there, deep_nowhere}
+use Rattle.judging.proofs.WholeLaws.{deep_judged}
 use Rattle.judging.proofs.whole.judge_deep.Goals as goal
 
-pub returns-in-Some : goal.returns-in-Some
-returns-in-Some c = deep-there _ _ _ _ refl c.requires.2 c.in-Some.ensures.first c.in-Some.ensures.inside
-
 pub returns : goal.returns
-returns c = deep_nowhere _ _ _ _ refl c.requires.2 c.in_default.ensures.first (omega arith) _
+returns c = search deep_judged

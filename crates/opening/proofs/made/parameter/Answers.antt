@@ -1,8 +1,5 @@
-use Rattle.opening.proofs.MadeLaws.{seeking_start, seeking_end, seeking_here, seeking_next}
+use Rattle.opening.proofs.MadeLaws.{seeking_end, seeking_here, seeking_next}
 use Rattle.opening.proofs.made.parameter.Goals as goal
-
-pub loop-j-init : goal.loop-j-init
-loop-j-init c = search seeking_start
 
 pub returns-then-same_name : goal.returns-then-same_name
 returns-then-same_name c = search seeking_here

@@ -1,5 +1,0 @@
-use Rattle.replay.proofs.AgreedLaws.{output_compared}
-use Rattle.replay.proofs.output_cases.agrees.Goals as goal
-
-pub returns : goal.returns
-returns c = search output_compared

@@ -1,6 +1,0 @@
-use Rattle.replay.proofs.CountLaws.{room-counted}
-use Rattle.std.proofs.Common.{rules}
-use Rattle.replay.proofs.output_cases.compare_room.Goals as goal
-
-pub returns : goal.returns
-returns c = search (room-counted, rules)
