@@ -35,7 +35,7 @@ use Rattle.steps.specs.Met.{told, state, Met, Chained, SymbolAt, Named}
 
 -- ---- identifiers
 
-identifier-long : (b : List ℕ) → ident_refusal b ≡ 0 → 0 < length b
+pub identifier-long : (b : List ℕ) → ident_refusal b ≡ 0 → 0 < length b
 unfolding ident_refusal
 identifier-long [] e = absurd (omega arith)
 identifier-long (c ∷ cs) e = omega arith

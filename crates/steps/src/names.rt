@@ -11,7 +11,7 @@ use reader::after;
 use records::Ground;
 use tally::emit_at;
 use tokens::Token;
-use tokens::names::{check_ident, first_byte, spelling};
+use tokens::names::{check_ident, spelling};
 use trees::{Head, Kind};
 
 // Whether s is an identifier that starts with `$` and goes on, and otherwise why not.
@@ -19,7 +19,7 @@ fn check_const(s: &[u8]) -> Result<(), Ground>
     ensures { code result ≡ const_refusal s.now }
 {
     check_ident(s)?;
-    if first_byte(s) != b'$' {
+    if s[0] != b'$' {
         return Err(Ground::NotAConstant);
     }
     if s.len() == 1 {

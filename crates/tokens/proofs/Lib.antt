@@ -1,3 +1,4 @@
 pub mod TokenLaws
 pub mod NameLaws
 pub mod LentLaws
+mod PassLaws

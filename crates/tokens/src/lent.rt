@@ -3,84 +3,89 @@ ghost use Rattle.std.specs.Prelude.{◌≡◌, ℕ, ◌+◌, ◌*◌, ◌≤◌,
 ghost use Rattle.tokens.specs.Token.{token_count};
 ghost use Rattle.tokens.specs.Lent.{ascii, reach, good_value, good_words, good_token, first_bad};
 
-use crate::Token;
-use crate::names::{greater, spelling};
+use crate::names::spelling;
+use crate::{Token, all_pass};
 use words::word;
 
-// Whether all bytes are below 128. It goes on to the end in any case, so that the compiler takes many bytes at once.
+// Whether all bytes are below 128.
+#[tactic(auto, using(crate::proofs::LentLaws::ascii_all))]
 pub fn is_ascii(s: &[u8]) -> bool
     ensures { result ≡ ascii s.now }
 {
-    let mut highest = 0;
-    let mut i = 0;
-    while i < s.len() {
-        highest = greater(highest, s[i]);
-        i += 1;
-    }
-    highest < 128
+    all_pass(s, |c| c < 128)
 }
 
-// How far a token's range may reach: a symbol's to the end of the text, the others have none.
-fn reach(text: &[u8], kind: u8) -> u64
-    ensures { result ≡ reach text.now kind }
-{
-    if kind == Token::SYMBOL {
-        text.len() as u64
-    } else {
-        0
-    }
+// A token list, its text and the position of the end; and whether all of the text is below 128.
+#[derive(Clone, Copy)]
+struct Lent<'a> {
+    tokens: &'a [u8],
+    text: &'a [u8],
+    end: u32,
+    plain: bool,
+    ghost is_plain: { plain ≡ ascii text.now },
 }
 
-// A symbol's bytes are looked at only where the whole text is not below 128.
-fn is_good_value(text: &[u8], plain: bool, kind: u8, b: u64, c: u64) -> bool
-    requires { plain ≡ ascii text.now }
-    ensures { result ≡ good_value text.now kind b c }
-{
-    if kind == Token::INT {
-        return true;
+impl Lent<'_> {
+    // How far a token's range may reach: a symbol's to the end of the text, the others have none.
+    fn reach(&self, kind: u8) -> u64
+        ensures { result ≡ reach self.now.text.now kind }
+    {
+        if kind == Token::SYMBOL {
+            self.text.len() as u64
+        } else {
+            0
+        }
     }
-    if c != 0 {
-        return false;
-    }
-    if reach(text, kind) < b / 4294967296 + b % 4294967296 {
-        return false;
-    }
-    if plain {
-        return true;
-    }
-    is_ascii(spelling(text, b))
-}
 
-fn is_good_words(text: &[u8], plain: bool, end: u32, a: u64, b: u64, c: u64) -> bool
-    requires { plain ≡ ascii text.now }
-    ensures { result ≡ good_words text.now end a b c }
-{
-    let kind = (a / 1152921504606846976) as u8;
-    if kind == Token::NONE {
-        return false;
+    // A symbol's bytes are looked at only where the whole text is not below 128.
+    fn is_good_value(&self, kind: u8, b: u64, c: u64) -> bool
+        ensures { result ≡ good_value self.now.text.now kind b c }
+    {
+        if kind == Token::INT {
+            return true;
+        }
+        if c != 0 {
+            return false;
+        }
+        if self.reach(kind) < b / 4294967296 + b % 4294967296 {
+            return false;
+        }
+        if self.plain {
+            return true;
+        }
+        is_ascii(spelling(self.text, b))
     }
-    if Token::AT < kind {
-        return false;
-    }
-    if a / 4294967296 % 268435456 != 0 {
-        return false;
-    }
-    if (end as u64) < a % 4294967296 {
-        return false;
-    }
-    is_good_value(text, plain, kind, b, c)
-}
 
-fn is_good(tokens: &[u8], text: &[u8], plain: bool, end: u32, at: usize) -> bool
-    requires plain_value { plain ≡ ascii text.now }
-    requires at_bound { at < token_count tokens.now }
-    ensures { result ≡ good_token tokens.now text.now end at }
-{
-    let k = at * Token::WIDTH;
-    let a = word(tokens, k);
-    let b = word(tokens, k + 8);
-    let c = word(tokens, k + 16);
-    is_good_words(text, plain, end, a, b, c)
+    fn is_good_words(&self, a: u64, b: u64, c: u64) -> bool
+        ensures { result ≡ good_words self.now.text.now self.now.end a b c }
+    {
+        let kind = (a / 1152921504606846976) as u8;
+        if kind == Token::NONE {
+            return false;
+        }
+        if Token::AT < kind {
+            return false;
+        }
+        if a / 4294967296 % 268435456 != 0 {
+            return false;
+        }
+        if u64::from(self.end) < a % 4294967296 {
+            return false;
+        }
+        self.is_good_value(kind, b, c)
+    }
+
+    // Whether the token at an index is a good one.
+    fn is_good(&self, at: usize) -> bool
+        requires { at < token_count self.now.tokens.now }
+        ensures { result ≡ good_token self.now.tokens.now self.now.text.now self.now.end at }
+    {
+        let k = at * Token::WIDTH;
+        let a = word(self.tokens, k);
+        let b = word(self.tokens, k + 8);
+        let c = word(self.tokens, k + 16);
+        self.is_good_words(a, b, c)
+    }
 }
 
 // The index of the first token that is not good, or the number of tokens.
@@ -88,13 +93,16 @@ pub fn first_bad(tokens: &[u8], text: &[u8], end: u32) -> usize
     ensures { result ≡ first_bad tokens.now text.now end }
 {
     let count = tokens.len() / Token::WIDTH;
-    let plain = is_ascii(text);
-    let mut i = 0;
-    while i < count {
-        if !is_good(tokens, text, plain, end, i) {
+    let lent = Lent {
+        tokens,
+        text,
+        end,
+        plain: is_ascii(text),
+    };
+    for i in 0..count {
+        if !lent.is_good(i) {
             return i;
         }
-        i += 1;
     }
-    i
+    count
 }

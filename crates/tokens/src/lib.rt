@@ -4,11 +4,12 @@
 pub mod lent;
 pub mod names;
 
-ghost use Rattle.std.specs.Prelude.{◌≡◌, ℕ, ◌+◌, ◌≤◌, ◌<◌, length};
+ghost use Rattle.std.specs.Prelude.{◌≡◌, ℕ, Bool, ◌+◌, ◌≤◌, ◌<◌, length};
+ghost use Rattle.std.specs.List.{list_all};
 ghost use Rattle.tokens.specs.Kind.{kind_number};
 ghost use Rattle.tokens.specs.Token.{token_count, token_at, kind_at, is_lparen, is_rparen, is_symbol, is_int, is_at, is_refused, is_too_many, is_const, is_word};
 
-use names::{first_byte, spelling};
+use names::spelling;
 use words::{same, word};
 
 // The kinds of tokens. The last two are never lent: what stands behind the tokens of a text where the lexer refuses the next one, and where
@@ -106,11 +107,12 @@ impl Token {
     }
 
     // Whether the token is a symbol that starts with `$`.
+    #[tactic(auto, unfolding(crate::specs::Token::is_const))]
     pub fn is_const(self, text: &[u8]) -> bool
         ensures { result ≡ is_const text.now self }
     {
         if self.kind == Token::SYMBOL {
-            first_byte(spelling(text, self.word1)) == b'$'
+            matches!(spelling(text, self.word1), [b'$', ..])
         } else {
             false
         }
@@ -126,6 +128,20 @@ impl Token {
             false
         }
     }
+}
+
+// Whether all bytes pass a test. It goes on to the end in any case, so that the compiler takes many bytes at once.
+fn all_pass<F: Fn(u8) -> bool>(s: &[u8], test: F) -> bool
+    ghost passes: { ℕ → Bool }
+    requires callable { F.IsAlwaysCallable test }
+    requires tells { (c : ℕ) (r : Bool) → F.post test c r → r ≡ passes c }
+    ensures { result ≡ list_all passes s.now }
+{
+    let mut all = true;
+    for c in s {
+        all = all & test(*c);
+    }
+    all
 }
 
 // The token at an index, or what stands past the last one.

@@ -1,3 +1,4 @@
+use borrow.Author.Rules.{rules}
 use borrow.Author.Tests.{not-true, not-false}
 use Rattle.tokens.proofs.LentLaws.{bad-start, bad-on, bad-found, bad-none}
 use Rattle.tokens.proofs.lent.first_bad.Goals as goal
@@ -12,4 +13,4 @@ pub loop-i-preserved : goal.loop-i-preserved
 loop-i-preserved c = search (bad-on, not-false)
 
 pub returns : goal.returns
-returns c = search bad-none
+returns c = bad-none _ _ _ _ c.loop-i.invariant (search rules)

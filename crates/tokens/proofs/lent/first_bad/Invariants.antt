@@ -6,6 +6,3 @@ use Rattle.tokens.proofs.lent.first_bad.Given as goal
 
 abbrev pub invariant-loop-i : goal.invariant-loop-i
 invariant-loop-i l = first_bad l.tokens l.text l.end ≡ bad_from l.tokens l.text l.end (token_count l.tokens - l.i) l.i
-
-abbrev pub decreases-loop-i : goal.decreases-loop-i
-decreases-loop-i l = token_count l.tokens - l.i

@@ -1,5 +1,5 @@
 use Rattle.tokens.proofs.LentLaws.{reach-symbol, reach-other}
-use Rattle.tokens.proofs.lent.reach.Goals as goal
+use Rattle.tokens.proofs.lent.Lent.reach.Goals as goal
 
 pub returns-then-kind-eq-SYMBOL : goal.returns-then-kind-eq-SYMBOL
 returns-then-kind-eq-SYMBOL c = search reach-symbol
