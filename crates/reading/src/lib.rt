@@ -54,12 +54,7 @@ fn read_good(s: &Source, out: &mut [u8]) -> u64
     requires short { length s.now.text.now ≤ 65536 }
     ensures { Answered (fitted (slots out.old) (parse_defs (seen s.now) 0)) (length out.old) out.new result }
 {
-    let start = State {
-        next: 0,
-        count: 0,
-        items: 0,
-    };
-    let p = parse_defs(s, out, start);
+    let p = parse_defs(s, out, State::START);
     finish(out, p)
 }
 

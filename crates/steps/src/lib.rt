@@ -34,6 +34,15 @@ pub struct State {
     pub items: usize,
 }
 
+impl State {
+    // Before the first token, with nothing read.
+    pub const START: State = State {
+        next: 0,
+        count: 0,
+        items: 0,
+    };
+}
+
 // Why reading stopped, where, and how many tokens were consumed.
 #[derive(Clone, Copy)]
 pub struct Stop {

@@ -33,22 +33,10 @@ use Rattle.parser.specs.Reading.{stopped, fitted}
 use Rattle.reading.specs.Answered.{Answered, Finished, Countable}
 use Rattle.reading.proofs.ReadLaws.{met_finished, good_countable}
 use Rattle.lexer.specs.Lexer.{token, run_end}
-use Rattle.lexer.specs.Gaps.{RunTo}
 use Rattle.lexer.specs.Text.{lexed, Stops, at-end, refused, too_many, records_of, Wrote}
-use Rattle.lexer.proofs.GapLaws.{Run, run_on, run_stop}
 use Rattle.lexer.proofs.RunLaws.{stops, length-lexed}
 use Rattle.texts.specs.TextReading.{token_bytes, foremost, looked_ahead, parse_text, is_ascii, text_reading}
 use Rattle.texts.specs.Looked.{Looked}
-
--- ---- bytes above 127
-
-pub high-on : (text : List ℕ) (i : ℕ) → Run is_ascii text 0 i → i < length text → get_or text i 0 ≤ 127 → Run is_ascii text 0 (i + 1)
-unfolding is_ascii
-high-on text i q h k = run_on is_ascii text 0 i q true h (sym (lt-ltb (get_or text i 0) 128 (omega arith))) refl
-
-pub high-here : (text : List ℕ) (i : ℕ) → Run is_ascii text 0 i → i < length text → 127 < get_or text i 0 → RunTo is_ascii text 0 i
-unfolding is_ascii
-high-here text i q h k = run_stop is_ascii text 0 i q false h (sym (le-ltb (get_or text i 0) 128 (omega arith))) refl
 
 -- ---- a refusal
 
@@ -192,8 +180,8 @@ module _ (text : List ℕ) (n r space : ℕ) (l' : List ℕ) where
       let z = ascii-end text 0 (sym w ∙ k) in
       rw (le-ltb 65536 (length text) h, le-ltb (run_end is_ascii text 0) (length text) (omega arith)) a
 
-  pub not_ascii : (b : Bool) (p : ℕ) → length text ≤ 65536 → b ≡ ascii text → b ≡ false → RunTo is_ascii text 0 p → Answered (stopped 41 p) n l' r → Answered (text_reading text space) n l' r
+  pub not_ascii : (b : Bool) (p : ℕ) → length text ≤ 65536 → b ≡ ascii text → b ≡ false → p ≡ run_end is_ascii text 0 → Answered (stopped 41 p) n l' r → Answered (text_reading text space) n l' r
   unfolding text_reading
   not_ascii b p h w k t a =
       let z = ascii-before text 0 (sym w ∙ k) in
-      rw (le-ltb 65536 (length text) h, lt-ltb (run_end is_ascii text 0) (length text) (omega arith), ← t.ends) a
+      rw (le-ltb 65536 (length text) h, lt-ltb (run_end is_ascii text 0) (length text) (omega arith), ← t) a

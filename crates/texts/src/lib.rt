@@ -7,12 +7,12 @@ ghost use Rattle.tokens.specs.Input.{peek, size};
 ghost use Rattle.steps.specs.Met.{seen, told};
 ghost use Rattle.parser.specs.Defs.{parse_defs};
 ghost use Rattle.parser.specs.Reading.{fitted};
-ghost use Rattle.lexer.specs.Gaps.{RunTo};
 ghost use Rattle.lexer.specs.Text.{lexed};
 ghost use Rattle.reading.specs.Answered.{Answered};
 ghost use Rattle.texts.specs.Looked.{Looked};
-ghost use Rattle.texts.specs.TextReading.{is_ascii, foremost, looked_ahead, parse_text, text_reading};
+ghost use Rattle.texts.specs.TextReading.{first_high, foremost, looked_ahead, parse_text, text_reading};
 
+use lexer::gaps::run_end;
 use lexer::text::lex;
 use parser::parse_defs;
 use reading::{finish, refuse};
@@ -23,14 +23,9 @@ use tokens::{Token, token_at};
 
 // Where the first byte above 127 stands, or the text's length.
 fn first_high(text: &[u8]) -> usize
-    ensures { RunTo is_ascii text.now 0 result }
+    ensures { result ≡ first_high text.now }
 {
-    for (i, c) in text.iter().enumerate() {
-        if 127 < *c {
-            return i;
-        }
-    }
-    text.len()
+    run_end(text, 0, |c| c <= 127)
 }
 
 // The refusal that is met first: d, or what stops the lexer at the next token.
@@ -74,12 +69,7 @@ fn read_lexed(s: &Source, out: &mut [u8]) -> u64
     requires short { length s.now.text.now ≤ 65536 }
     ensures { Answered (fitted (slots out.old) (looked_ahead (seen s.now) (parse_defs (seen s.now) 0))) (length out.old) out.new result }
 {
-    let start = State {
-        next: 0,
-        count: 0,
-        items: 0,
-    };
-    let p = parse_defs(s, out, start);
+    let p = parse_defs(s, out, State::START);
     let q = looked(s, p);
     finish(out, q)
 }
