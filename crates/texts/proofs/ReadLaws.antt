@@ -4,7 +4,7 @@ use native.Mathlib.Omega.{arith}
 use mathlib.Core.Path.{◌≡◌, refl, sym, ap, ◌∙◌}
 use mathlib.Core.List.{List, [], ◌∷◌}
 use mathlib.Core.Bool.{Bool, true, false, false≢true}
-use lib.ListN.{length, get_or, take, replicate, length-replicate, length-append}
+use lib.ListN.{length, take, replicate, length-replicate, length-append}
 use lib.Seq.{take_all, length-take-le}
 use lib.Dec.{ltb, leb}
 use mir.Syntax.{w64}
@@ -20,13 +20,12 @@ use Rattle.tokens.specs.Lent.{ascii}
 use Rattle.tokens.specs.Input.{Input, input, peek, size}
 use Rattle.std.specs.Prelude.{Result, Ok, Err}
 use Rattle.std.specs.Result.{IfOk}
-use Rattle.records.specs.declared.Ground.{Ground}
 use Rattle.records.specs.declared.Ground.TheVariants.{TooMuch, NotAToken, RuleName}
 use Rattle.records.specs.Grounds.{number}
 use Rattle.records.proofs.GroundLaws.{rule_name_number}
 use Rattle.steps.specs.declared.State.{State}
 use Rattle.steps.specs.declared.Stop.{Stop}
-use Rattle.steps.specs.Outcome.{Outcome, accept, refuse, refusal}
+use Rattle.steps.specs.Outcome.{Outcome, accept, refuse}
 use Rattle.steps.specs.Met.{told, state, Met, Chained, Within}
 use Rattle.parser.specs.Defs.{parse_defs}
 use Rattle.parser.specs.Reading.{stopped, fitted}

@@ -1,5 +1,5 @@
 -- What the code promises of the end of the parser: a refusal gives way to what stops the lexer.
-use Rattle.std.specs.Prelude.{ℕ, ◌≡◌, Result, Ok, Err}
+use Rattle.std.specs.Prelude.{◌≡◌, Result, Ok, Err}
 use Rattle.tokens.specs.Input.{Input, peek}
 use Rattle.steps.specs.declared.State.{State}
 use Rattle.steps.specs.declared.Stop.{Stop}

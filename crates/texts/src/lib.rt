@@ -22,10 +22,12 @@ use tokens::lent::is_ascii;
 use tokens::{Token, token_at};
 
 // Where the first byte above 127 stands, or the text's length.
+#[tactic(auto, unfolding(crate::specs::TextReading::is_ascii))]
 fn first_high(text: &[u8]) -> usize
-    ensures { result ≡ first_high text.now }
+    ensures where_it_stands { result ≡ first_high text.now }
+    ensures in_the_text { result ≤ length text.now }
 {
-    run_end(text, 0, |c| c <= 127)
+    run_end(text, 0, |c| c < 128)
 }
 
 // The refusal that is met first: d, or what stops the lexer at the next token.
