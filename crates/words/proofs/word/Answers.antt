@@ -1,7 +1,6 @@
-use Rattle.words.specs.Words.{word_at}
-use borrow.Author.Rules.{rules}
+use mathlib.Core.Path.{◌∙◌}
+use Rattle.words.proofs.Laws.{word-is}
 use Rattle.words.proofs.word.Goals as goal
 
 pub returns : goal.returns
-unfolding word_at
-returns c = search rules
+returns c = c.from_be_bytes.ensures ∙ word-is c.args.s.now c.args.at
