@@ -7,12 +7,12 @@ use Rattle.trees.specs.Ast.{kind_pattern_var, kind_pattern_bind, kind_pattern_co
 use Rattle.tokens.specs.Token.{is_lparen, is_rparen, is_symbol, is_int, is_at, is_const, is_word}
 use Rattle.tokens.specs.Input.{Input, peek}
 use Rattle.std.specs.Prelude.{Result}
-use Rattle.steps.specs.declared.State.{State}
+use Rattle.steps.specs.declared.Parser.{Parser}
 use Rattle.steps.specs.declared.Stop.{Stop}
 use Rattle.steps.specs.Keywords.{word-wildcard, word-true, word-false, word_and}
 use Rattle.steps.specs.Outcome.{Reader, ◌⊳◌, parent, leaf, plain, refuse_at, if_next, if_second, row, expect-lparen, expect-rparen, expect-at, expect-word, parse_ident, parse_const}
 use Rattle.steps.specs.Sizes.{Bounded}
-use Rattle.steps.specs.Met.{Chained, Moved}
+use Rattle.steps.specs.Read.{read_by, Read}
 use Rattle.steps.proofs.SizeLaws.{Steady, Item, steady, item, then_bounded, parent-bounded, next-bounded, second-bounded, leaf-bounded, refuse-bounded, int_kinded, word_kinded, lparen-bounded, rparen-bounded, at-bounded, word-bounded, ident-bounded, const_bounded}
 use Rattle.steps.proofs.RowLaws.{row_steady}
 use Rattle.patterns.specs.Pattern.{const_int, compound, pattern_in, parse_pattern}
@@ -100,10 +100,9 @@ unfolding parse_pattern
 one_less s zero h = absurd (h refl)
 one_less s (suc d) h = let e : suc d - 1 ≡ d = omega arith in rw e
 
-module _ (s : Input) (d : ℕ) {p : State} {r : Result State Stop} {l l' : List ℕ} where
-  pub too_deep : d ≡ 0 → Chained (refuse_at s 8) p l l' r → Chained (parse_pattern s d) p l l' r
-  unfolding parse_pattern
-  too_deep e m = rw e m
+pub too_deep : (d : ℕ) {p p' : Parser} {r : Result (Unit {0}) Stop} → d ≡ 0 → Read (λ s. refuse_at s 8) p p' r → Read (λ s. parse_pattern s d) p p' r
+unfolding parse_pattern
+too_deep d e m = rw e m
 
-  pub not_too_deep : (d ≡ 0 → ⊥) → Chained (pattern_in s (parse_pattern s (d - 1))) p l l' r → Chained (parse_pattern s d) p l l' r
-  not_too_deep z m = rw (one_less s d z) m
+pub not_too_deep : (d : ℕ) {p p' : Parser} {r : Result (Unit {0}) Stop} → (d ≡ 0 → ⊥) → Read (λ s. pattern_in s (parse_pattern s (d - 1))) p p' r → Read (λ s. parse_pattern s d) p p' r
+not_too_deep d {p = p} z m = record { read = rw (one_less (read_by p) d z) m.read; same = m.same }

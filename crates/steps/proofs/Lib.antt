@@ -3,3 +3,4 @@ pub mod MetLaws
 pub mod StepLaws
 pub mod NameLaws
 pub mod RowLaws
+pub mod ReadLaws

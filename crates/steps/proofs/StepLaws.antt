@@ -119,3 +119,17 @@ passed_next tokens end test p q m = go (test (token_at tokens end p.next)) (m.sa
 
 pub second_is_next : (s : Input) (p q : State) (u : Token) → u ≡ peek s (p.next + 1) → q.next ≡ p.next + 1 → u ≡ peek s q.next
 second_is_next s p q u a e = a ∙ ap (peek s) (sym e)
+
+-- what a token's kind tells
+module _ (t : Token) (kind x : ℕ) (a : x ≡ t.kind) where
+  pub is_kind_yes : x ≡ kind → is_kind kind t ≡ true
+  unfolding is_kind
+  is_kind_yes b = eq-eqb t.kind kind (sym a ∙ b)
+
+  pub is_kind_no : (x ≡ kind → ⊥) → is_kind kind t ≡ false
+  unfolding is_kind
+  is_kind_no b = ne_eqb t.kind kind (λ g. b (a ∙ g))
+
+-- what a test of the token t has told of the one that it is
+pub told_by : (test : Token → Bool) (u t : Token) (b v : Bool) → t ≡ u → b ≡ test t → b ≡ v → test u ≡ v
+told_by test u t b v a e c = rw (← a, ← e) c

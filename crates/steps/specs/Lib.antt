@@ -2,3 +2,4 @@ pub mod Keywords
 pub mod Outcome
 pub mod Met
 pub mod Sizes
+pub mod Read

@@ -1,4 +1,4 @@
-// The parser's state by value, and the steps that every parse function is made of: a token expected, a name read, a node closed.
+// The parser, and the steps that every parse function is made of: a token expected, a name read, a node begun and closed.
 // Tokens are read and passed through `reader`, records are written through `tally`.
 #![tactic(auto)]
 
@@ -11,8 +11,9 @@ ghost use Rattle.tokens.specs.Token.{token_at, kind_at, is_kind, is_lparen, is_r
 ghost use Rattle.tokens.specs.Input.{peek, pos_at, size};
 ghost use Rattle.tokens.specs.Kind.{kind_number};
 ghost use Rattle.records.specs.Grounds.{number};
-ghost use Rattle.steps.specs.Outcome.{unexpected, expect_at, refuse_from, refuse_after, ate, eat};
-ghost use Rattle.steps.specs.Met.{seen, told, state, Moved, Within, Near, inside};
+ghost use Rattle.steps.specs.Outcome.{unexpected, expect_at, expect-lparen, expect-rparen, expect-at, expect-word, refuse_at, refuse_after, ate, eat};
+ghost use Rattle.steps.specs.Met.{seen, told, state, inside};
+ghost use Rattle.steps.specs.Read.{read_by, Read, Passed, Begun, Same, Went};
 
 use reader::{after, peek, peek_second};
 use records::Ground;
@@ -26,7 +27,7 @@ pub struct Source<'a> {
     pub end: u32,
 }
 
-// The parser's state: the index of the next token, the slot of the next record and how many trees were read in this row.
+// How far reading is: the index of the next token, the slot of the next record and how many trees were read in this row.
 #[derive(Clone, Copy)]
 pub struct State {
     pub next: usize,
@@ -51,6 +52,14 @@ pub struct Stop {
     pub taken: usize,
 }
 
+// What is read, the output that the records go to, and how far reading is: Parser of the Rust.
+#[derive(Drop)]
+pub struct Parser<'a> {
+    pub source: Source<'a>,
+    pub out: &'a mut [u8],
+    pub state: State,
+}
+
 // The refusal of the token t at an index where another is expected.
 fn unexpected(t: Token, at: usize) -> Stop
     ensures { told result ≡ unexpected t at }
@@ -69,214 +78,189 @@ fn unexpected(t: Token, at: usize) -> Stop
     }
 }
 
-// The state after the next token.
-fn pass(s: &Source, p: State) -> State
-    requires { p.next < size (seen s.now) }
-    ensures { result ≡ state (p.next + 1) p.count p.items }
-{
-    State {
-        next: after(s.tokens, p.next),
-        count: p.count,
-        items: p.items,
+impl Parser<'_> {
+    // The next token.
+    pub fn next_token(&self) -> Token
+        ensures { result ≡ peek (read_by self.now) self.now.state.next }
+    {
+        peek(self.source.tokens, self.source.end, self.state.next)
     }
-}
 
-// A token of this kind, passed.
-fn expect_kind(s: &Source, p: State, kind: TokenKind) -> Result<State, Stop>
-    requires { 0 < kind_number kind }
-    ensures reads { Moved (expect_at s.now.tokens.now s.now.end (is_kind (kind_number kind))) p result }
-    ensures within { IfOk result (Within 1 3 0 (seen s.now) p) }
-{
-    if kind_at(s.tokens, p.next) == kind.number() {
-        return Ok(pass(s, p));
+    // The token after the next one.
+    pub fn second_token(&self) -> Token
+        requires { self.now.state.next < 4294967296 }
+        ensures { result ≡ peek (read_by self.now) (self.now.state.next + 1) }
+    {
+        peek_second(self.source.tokens, self.source.end, self.state.next)
     }
-    let t = peek(s.tokens, s.end, p.next);
-    Err(unexpected(t, p.next))
-}
 
-pub fn expect_lparen(s: &Source, p: State) -> Result<State, Stop>
-    ensures reads { Moved (expect_at s.now.tokens.now s.now.end is_lparen) p result }
-    ensures within { IfOk result (Within 1 3 0 (seen s.now) p) }
-{
-    expect_kind(s, p, TokenKind::LParen)
-}
-
-// expect_lparen by the next token t, which its caller has read already.
-pub fn expect_lparen_of(s: &Source, p: State, t: Token) -> Result<State, Stop>
-    requires { t ≡ peek (seen s.now) p.next }
-    ensures reads { Moved (expect_at s.now.tokens.now s.now.end is_lparen) p result }
-    ensures within { IfOk result (Within 1 3 0 (seen s.now) p) }
-{
-    if t.is_lparen() {
-        return Ok(pass(s, p));
+    // The kind of the next token.
+    pub fn next_kind(&self) -> u8
+        ensures { result ≡ (peek (read_by self.now) self.now.state.next).kind }
+    {
+        kind_at(self.source.tokens, self.state.next)
     }
-    Err(unexpected(t, p.next))
-}
 
-pub fn expect_rparen(s: &Source, p: State) -> Result<State, Stop>
-    ensures reads { Moved (expect_at s.now.tokens.now s.now.end is_rparen) p result }
-    ensures within { IfOk result (Within 1 3 0 (seen s.now) p) }
-{
-    expect_kind(s, p, TokenKind::RParen)
-}
-
-pub fn expect_at(s: &Source, p: State) -> Result<State, Stop>
-    ensures reads { Moved (expect_at s.now.tokens.now s.now.end is_at) p result }
-    ensures within { IfOk result (Within 1 3 0 (seen s.now) p) }
-{
-    expect_kind(s, p, TokenKind::At)
-}
-
-// eat_sym_str of the Rust, where the symbol w is known to stand.
-pub fn expect_word(s: &Source, p: State, w: &[u8]) -> Result<State, Stop>
-    ensures reads { Moved (expect_at s.now.tokens.now s.now.end (is_word s.now.text.now w.now)) p result }
-    ensures within { IfOk result (Within 1 3 0 (seen s.now) p) }
-{
-    let t = peek(s.tokens, s.end, p.next);
-    expect_word_of(s, p, w, t)
-}
-
-// The same by the next token t.
-pub fn expect_word_of(s: &Source, p: State, w: &[u8], t: Token) -> Result<State, Stop>
-    requires { t ≡ peek (seen s.now) p.next }
-    ensures reads { Moved (expect_at s.now.tokens.now s.now.end (is_word s.now.text.now w.now)) p result }
-    ensures within { IfOk result (Within 1 3 0 (seen s.now) p) }
-{
-    if t.is_word(s.text, w) {
-        return Ok(pass(s, p));
+    // The kind of the token after the next one.
+    pub fn second_kind(&self) -> u8
+        requires { self.now.state.next < 4294967296 }
+        ensures { result ≡ (peek (read_by self.now) (self.now.state.next + 1)).kind }
+    {
+        kind_at(self.source.tokens, after(self.source.tokens, self.state.next))
     }
-    Err(unexpected(t, p.next))
-}
 
-// The next token.
-pub fn next_token(s: &Source, p: State) -> Token
-    ensures { result ≡ peek (seen s.now) p.next }
-{
-    peek(s.tokens, s.end, p.next)
-}
-
-// The token after the next one.
-pub fn second_token(s: &Source, p: State) -> Token
-    requires { p.next < 4294967296 }
-    ensures { result ≡ peek (seen s.now) (p.next + 1) }
-{
-    peek_second(s.tokens, s.end, p.next)
-}
-
-// The kind of the token after the next one.
-pub fn second_kind(s: &Source, p: State) -> u8
-    requires { p.next < 4294967296 }
-    ensures { result ≡ (peek (seen s.now) (p.next + 1)).kind }
-{
-    kind_at(s.tokens, after(s.tokens, p.next))
-}
-
-// The position of the next token.
-pub fn next_pos(s: &Source, p: State) -> u32
-    ensures { result ≡ pos_at (seen s.now) p.next }
-{
-    pos_at(s.tokens, s.end, p.next)
-}
-
-// The state in which a node's first child is read.
-pub fn inside(p: State) -> State
-    requires { p.count < 4294967296 }
-    ensures { result ≡ inside p }
-{
-    State {
-        next: p.next,
-        count: p.count + 1,
-        items: 0,
+    // The position of the token at an index.
+    pub fn pos_at(&self, at: usize) -> u32
+        ensures { result ≡ pos_at (read_by self.now) at }
+    {
+        pos_at(self.source.tokens, self.source.end, at)
     }
-}
 
-// A refusal at the next token.
-pub fn refuse_at(s: &Source, p: State, why: Ground) -> Result<State, Stop>
-    ensures { Moved (refuse_from s.now.tokens.now s.now.end (number why)) p result }
-{
-    Err(Stop {
-        why,
-        place: next_pos(s, p),
-        taken: p.next,
-    })
-}
+    // Whether the word w stands next.
+    pub fn stands(&self, w: &[u8]) -> bool
+        ensures { result ≡ is_word self.now.source.text.now w.now (peek (read_by self.now) self.now.state.next) }
+    {
+        self.next_token().is_word(self.source.text, w)
+    }
 
-// A refusal at a token that is consumed, where it is of this kind.
-pub fn refuse_after(s: &Source, p: State, kind: TokenKind, why: Ground) -> Result<State, Stop>
-    requires { p.next < 4294967296 }
-    ensures { Moved (refuse_after (seen s.now) (kind_number kind) (number why)) p result }
-{
-    let t = peek(s.tokens, s.end, p.next);
-    if t.kind == kind.number() {
-        return Err(Stop {
+    // Whether the word w stands after the next token.
+    pub fn stands_second(&self, w: &[u8]) -> bool
+        requires { self.now.state.next < 4294967296 }
+        ensures { result ≡ is_word self.now.source.text.now w.now (peek (read_by self.now) (self.now.state.next + 1)) }
+    {
+        self.second_token().is_word(self.source.text, w)
+    }
+
+    // A token is passed.
+    fn pass(&mut self)
+        requires { self.old.state.next < size (read_by self.old) }
+        ensures next { self.new.state ≡ state (self.old.state.next + 1) self.old.state.count self.old.state.items }
+        ensures unwritten { self.new.out.now ≡ self.old.out.now }
+        ensures same { Same self.old self.new }
+    {
+        self.state.next = after(self.source.tokens, self.state.next);
+    }
+
+    // A token of this kind, passed.
+    fn expect_kind(&mut self, kind: TokenKind) -> Result<(), Stop>
+        requires { 0 < kind_number kind }
+        ensures reads { Read (λ s. expect_at s.tokens s.end (is_kind (kind_number kind))) self.old self.new result }
+        ensures within { IfOk result (λ _. Went 1 3 0 self.old self.new) }
+    {
+        if self.next_kind() == kind.number() {
+            self.pass();
+            return Ok(());
+        }
+        let t = self.next_token();
+        Err(unexpected(t, self.state.next))
+    }
+
+    pub fn expect_lparen(&mut self) -> Result<(), Stop>
+        ensures reads { Read expect-lparen self.old self.new result }
+        ensures within { IfOk result (λ _. Went 1 3 0 self.old self.new) }
+    {
+        self.expect_kind(TokenKind::LParen)
+    }
+
+    // The same by the next token t, which its caller has read already.
+    pub fn expect_lparen_of(&mut self, t: Token) -> Result<(), Stop>
+        requires { t ≡ peek (read_by self.old) self.old.state.next }
+        ensures reads { Read expect-lparen self.old self.new result }
+        ensures within { IfOk result (λ _. Went 1 3 0 self.old self.new) }
+    {
+        if t.is_lparen() {
+            self.pass();
+            return Ok(());
+        }
+        Err(unexpected(t, self.state.next))
+    }
+
+    pub fn expect_rparen(&mut self) -> Result<(), Stop>
+        ensures reads { Read expect-rparen self.old self.new result }
+        ensures within { IfOk result (λ _. Went 1 3 0 self.old self.new) }
+    {
+        self.expect_kind(TokenKind::RParen)
+    }
+
+    pub fn expect_at(&mut self) -> Result<(), Stop>
+        ensures reads { Read expect-at self.old self.new result }
+        ensures within { IfOk result (λ _. Went 1 3 0 self.old self.new) }
+    {
+        self.expect_kind(TokenKind::At)
+    }
+
+    // eat_sym_str of the Rust, where the symbol w is known to stand.
+    pub fn expect_word(&mut self, w: &[u8]) -> Result<(), Stop>
+        ensures reads { Read (λ s. expect-word s w.now) self.old self.new result }
+        ensures within { IfOk result (λ _. Went 1 3 0 self.old self.new) }
+    {
+        let t = self.next_token();
+        self.expect_word_of(w, t)
+    }
+
+    // The same by the next token t, which its caller has read already.
+    pub fn expect_word_of(&mut self, w: &[u8], t: Token) -> Result<(), Stop>
+        requires { t ≡ peek (read_by self.old) self.old.state.next }
+        ensures reads { Read (λ s. expect-word s w.now) self.old self.new result }
+        ensures within { IfOk result (λ _. Went 1 3 0 self.old self.new) }
+    {
+        if t.is_word(self.source.text, w) {
+            self.pass();
+            return Ok(());
+        }
+        Err(unexpected(t, self.state.next))
+    }
+
+    // eat_sym_str of the Rust: whether the word w stands next; it is passed then.
+    pub fn eat(&mut self, w: &[u8]) -> bool
+        requires { self.old.state.next < 4294967296 }
+        ensures stands { result ≡ is_word self.old.source.text.now w.now (peek (read_by self.old) self.old.state.next) }
+        ensures reads { Passed (λ s. eat s w.now) self.old self.new }
+        ensures within { Went 0 0 0 self.old self.new }
+    {
+        if !self.stands(w) {
+            return false;
+        }
+        self.pass();
+        true
+    }
+
+    // A node is begun: its own record's slot is left free. The state that it begins at.
+    pub fn begin(&mut self) -> State
+        requires { self.old.state.count < 4294967296 }
+        ensures start { result ≡ self.old.state }
+        ensures begun { Begun self.old self.new }
+    {
+        let node = self.state;
+        self.state.count += 1;
+        self.state.items = 0;
+        node
+    }
+
+    // A refusal at the next token.
+    pub fn refuse_at(&self, why: Ground) -> Result<(), Stop>
+        ensures { Read (λ s. refuse_at s (number why)) self.now self.now result }
+    {
+        Err(Stop {
             why,
-            place: t.pos,
-            taken: after(s.tokens, p.next),
-        });
+            place: self.pos_at(self.state.next),
+            taken: self.state.next,
+        })
     }
-    Err(unexpected(t, p.next))
-}
 
-// eat_sym_str of the Rust, at an index: the index after the word w, where it stands there.
-pub fn ate(s: &Source, at: usize, w: &[u8]) -> usize
-    requires { at < 4294967296 }
-    ensures index { result ≡ ate (seen s.now) w.now at }
-    ensures low { at ≤ result }
-    ensures high { result ≤ at + 1 }
-{
-    let t = peek(s.tokens, s.end, at);
-    ate_of(s, at, w, t)
-}
-
-// The same by the token t that stands there.
-pub fn ate_of(s: &Source, at: usize, w: &[u8], t: Token) -> usize
-    requires near { at < 4294967296 }
-    requires there { t ≡ peek (seen s.now) at }
-    ensures index { result ≡ ate (seen s.now) w.now at }
-    ensures low { at ≤ result }
-    ensures high { result ≤ at + 1 }
-{
-    if t.is_word(s.text, w) {
-        return after(s.tokens, at);
+    // A refusal at a token that is consumed, where it is of this kind.
+    pub fn refuse_after(&self, kind: TokenKind, why: Ground) -> Result<(), Stop>
+        requires { self.now.state.next < 4294967296 }
+        ensures { Read (λ s. refuse_after s (kind_number kind) (number why)) self.now self.now result }
+    {
+        let t = self.next_token();
+        if t.kind == kind.number() {
+            return Err(Stop {
+                why,
+                place: t.pos,
+                taken: after(self.source.tokens, self.state.next),
+            });
+        }
+        Err(unexpected(t, self.state.next))
     }
-    at
-}
-
-// The token at `next`, by the token t at `at`, which it is where nothing was eaten.
-pub fn token_after(s: &Source, at: usize, next: usize, t: Token) -> Token
-    requires { t ≡ peek (seen s.now) at }
-    ensures { result ≡ peek (seen s.now) next }
-{
-    if at == next {
-        return t;
-    }
-    peek(s.tokens, s.end, next)
-}
-
-// The same at a state.
-pub fn eat(s: &Source, p: State, w: &[u8]) -> State
-    requires { p.next < 4294967296 }
-    ensures reads { Moved (eat (seen s.now) w.now) p (Ok result) }
-    ensures within { Within 0 0 0 (seen s.now) p result }
-{
-    State {
-        next: ate(s, p.next, w),
-        count: p.count,
-        items: p.items,
-    }
-}
-
-// 1 where the word w stands next, and 0 otherwise.
-pub fn eaten(s: &Source, p: State, w: &[u8]) -> u8
-    ensures { result ≡ ate (seen s.now) w.now p.next - p.next }
-{
-    next_token(s, p).is_word(s.text, w) as u8
-}
-
-// The same of the token after the next one.
-pub fn eaten_second(s: &Source, p: State, w: &[u8]) -> u8
-    requires { p.next < 4294967296 }
-    ensures { result ≡ ate (seen s.now) w.now (p.next + 1) - (p.next + 1) }
-{
-    second_token(s, p).is_word(s.text, w) as u8
 }

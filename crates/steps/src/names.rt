@@ -4,9 +4,10 @@ ghost use Rattle.trees.specs.Names.{spelled, Nonempty, without_first};
 ghost use Rattle.records.specs.Grounds.{number, code};
 ghost use Rattle.tokens.specs.Ident.{ident_refusal};
 ghost use Rattle.steps.specs.Outcome.{name_by, refused_as, pragma_refusal, const_refusal, ident_at, parse_ident, parse_const};
-ghost use Rattle.steps.specs.Met.{seen, state, Met, Chained, Moved, Ready, Within, Near, SymbolAt, Named};
+ghost use Rattle.steps.specs.Met.{state, Near, SymbolAt, Named};
+ghost use Rattle.steps.specs.Read.{read_by, Read, Begins, Went};
 
-use crate::{Source, State, Stop, next_token, unexpected};
+use crate::{Parser, State, Stop, unexpected};
 use reader::after;
 use records::Ground;
 use tally::emit_at;
@@ -66,114 +67,111 @@ fn pragma_ground(s: &[u8]) -> Ground
     }
 }
 
-// The next token, a symbol.
-fn symbol(s: &Source, p: State) -> Result<Token, Stop>
-    ensures { SymbolAt (seen s.now) p result }
-{
-    let t = next_token(s, p);
-    if t.is_symbol() {
-        return Ok(t);
-    }
-    Err(unexpected(t, p.next))
-}
-
-// The Ident of the next token t, whose name has this range; or why it is refused. Every Ident of what is read is written here, and its name is
-// not empty.
-fn put_ident(
-    s: &Source,
-    out: &mut [u8],
-    p: State,
-    t: Token,
-    name: Result<u64, Ground>,
-) -> Result<State, Stop>
-    requires near { Near p }
-    requires nonempty { IfOk name Nonempty }
-    ensures reads { (c w : ℕ) → Named c w name → Met (ident_at t.pos w c p.next) p.count p.items out.old out.new result }
-    ensures one { IfOk result (λ q. q ≡ state (p.next + 1) (p.count + 1) (p.items + 1)) }
-{
-    let next = after(s.tokens, p.next);
-    match name {
-        Ok(range) => {
-            let h = Head {
-                kind: Kind::Ident as u8,
-                flags: 0,
-                pos: t.pos,
-                word1: range,
-                word2: 0,
-            };
-            let count = emit_at(out, p.count, h.over(0));
-            Ok(State {
-                next,
-                count,
-                items: p.items + 1,
-            })
+impl Parser<'_> {
+    // The next token, a symbol.
+    fn symbol(&self) -> Result<Token, Stop>
+        ensures { SymbolAt (read_by self.now) self.now.state result }
+    {
+        let t = self.next_token();
+        if t.is_symbol() {
+            return Ok(t);
         }
-        Err(why) => Err(Stop {
-            why,
-            place: t.pos,
-            taken: next,
-        }),
+        Err(unexpected(t, self.state.next))
     }
-}
 
-// That of a symbol t.
-pub fn put_name(s: &Source, out: &mut [u8], p: State, t: Token) -> Result<State, Stop>
-    requires { Near p }
-    ensures reads { Met (ident_at t.pos t.word1 (ident_refusal (spelled s.now.text.now t.word1)) p.next) p.count p.items out.old out.new result }
-    ensures one { IfOk result (λ q. q ≡ state (p.next + 1) (p.count + 1) (p.items + 1)) }
-{
-    put_ident(s, out, p, t, ident_name(s.text, t.word1))
-}
+    // The Ident of the next token t, whose name has this range; or why it is refused. Every Ident of what is read is written here, and its name
+    // is not empty.
+    fn put_ident(&mut self, t: Token, name: Result<u64, Ground>) -> Result<(), Stop>
+        requires near { Near self.old.state }
+        requires nonempty { IfOk name Nonempty }
+        ensures reads { (c w : ℕ) → Named c w name → Read (λ s. ident_at t.pos w c) self.old self.new result }
+        ensures one { IfOk result (λ _. self.new.state ≡ state (self.old.state.next + 1) (self.old.state.count + 1) (self.old.state.items + 1)) }
+    {
+        let next = after(self.source.tokens, self.state.next);
+        match name {
+            Ok(range) => {
+                let h = Head {
+                    word1: range,
+                    ..Head::plain(Kind::Ident, 0, t.pos)
+                };
+                let count = emit_at(self.out, self.state.count, h.over(0));
+                self.state = State {
+                    next,
+                    count,
+                    items: self.state.items + 1,
+                };
+                Ok(())
+            }
+            Err(why) => Err(Stop {
+                why,
+                place: t.pos,
+                taken: next,
+            }),
+        }
+    }
 
-// That of a constant t, without its `$`.
-pub fn put_const(s: &Source, out: &mut [u8], p: State, t: Token) -> Result<State, Stop>
-    requires near { Near p }
-    requires short { length s.now.text.now ≤ 65536 }
-    ensures reads { Met (ident_at t.pos (without_first t.word1) (const_refusal (spelled s.now.text.now t.word1)) p.next) p.count p.items out.old out.new result }
-    ensures one { IfOk result (λ q. q ≡ state (p.next + 1) (p.count + 1) (p.items + 1)) }
-{
-    put_ident(s, out, p, t, cut_dollar(s.text, t.word1))
-}
+    // That of a symbol t.
+    pub fn put_name(&mut self, t: Token) -> Result<(), Stop>
+        requires { Near self.old.state }
+        ensures reads { Read (λ s. ident_at t.pos t.word1 (ident_refusal (spelled s.text t.word1))) self.old self.new result }
+        ensures one { IfOk result (λ _. self.new.state ≡ state (self.old.state.next + 1) (self.old.state.count + 1) (self.old.state.items + 1)) }
+    {
+        let name = ident_name(self.source.text, t.word1);
+        self.put_ident(t, name)
+    }
 
-pub fn parse_ident(s: &Source, out: &mut [u8], p: State) -> Result<State, Stop>
-    requires { Ready 8 (seen s.now) p }
-    ensures reads { Chained (parse_ident (seen s.now)) p out.old out.new result }
-    ensures within { IfOk result (Within 1 2 0 (seen s.now) p) }
-{
-    let t = symbol(s, p)?;
-    put_name(s, out, p, t)
-}
+    // That of a constant t, without its `$`.
+    pub fn put_const(&mut self, t: Token) -> Result<(), Stop>
+        requires near { Near self.old.state }
+        requires short { length self.old.source.text.now ≤ 65536 }
+        ensures reads { Read (λ s. ident_at t.pos (without_first t.word1) (const_refusal (spelled s.text t.word1))) self.old self.new result }
+        ensures one { IfOk result (λ _. self.new.state ≡ state (self.old.state.next + 1) (self.old.state.count + 1) (self.old.state.items + 1)) }
+    {
+        let name = cut_dollar(self.source.text, t.word1);
+        self.put_ident(t, name)
+    }
 
-// The name of a constant, without its `$`.
-pub fn parse_const(s: &Source, out: &mut [u8], p: State) -> Result<State, Stop>
-    requires { Ready 8 (seen s.now) p }
-    ensures reads { Chained (parse_const (seen s.now)) p out.old out.new result }
-    ensures within { IfOk result (Within 1 2 0 (seen s.now) p) }
-{
-    let t = symbol(s, p)?;
-    put_const(s, out, p, t)
-}
+    pub fn parse_ident(&mut self) -> Result<(), Stop>
+        requires { Begins 8 self.old }
+        ensures reads { Read parse_ident self.old self.new result }
+        ensures within { IfOk result (λ _. Went 1 2 0 self.old self.new) }
+    {
+        let t = self.symbol()?;
+        self.put_name(t)
+    }
 
-// An identifier, refused for this reason where it is none.
-pub fn parse_name_or(s: &Source, out: &mut [u8], p: State, why: Ground) -> Result<State, Stop>
-    requires { Ready 8 (seen s.now) p }
-    ensures reads { Chained (name_by (seen s.now) (refused_as (number why)) (λ w. w)) p out.old out.new result }
-    ensures within { IfOk result (Within 1 2 0 (seen s.now) p) }
-{
-    let t = symbol(s, p)?;
-    put_ident(s, out, p, t, name_or(s.text, t.word1, why))
-}
+    // The name of a constant, without its `$`.
+    pub fn parse_const(&mut self) -> Result<(), Stop>
+        requires { Begins 8 self.old }
+        ensures reads { Read parse_const self.old self.new result }
+        ensures within { IfOk result (λ _. Went 1 2 0 self.old self.new) }
+    {
+        let t = self.symbol()?;
+        self.put_const(t)
+    }
 
-// A name after which reading is refused with 17, or with what the name is refused for.
-pub fn parse_pragma_name(s: &Source, p: State) -> Result<State, Stop>
-    requires { p.next < 4294967296 }
-    ensures reads { Moved (name_by (seen s.now) pragma_refusal (λ w. w)) p result }
-    ensures within { IfOk result (Within 1 2 0 (seen s.now) p) }
-{
-    let t = symbol(s, p)?;
-    Err(Stop {
-        why: pragma_ground(spelling(s.text, t.word1)),
-        place: t.pos,
-        taken: after(s.tokens, p.next),
-    })
+    // An identifier, refused for this reason where it is none.
+    pub fn parse_name_or(&mut self, why: Ground) -> Result<(), Stop>
+        requires { Begins 8 self.old }
+        ensures reads { Read (λ s. name_by s (refused_as (number why)) (λ w. w)) self.old self.new result }
+        ensures within { IfOk result (λ _. Went 1 2 0 self.old self.new) }
+    {
+        let t = self.symbol()?;
+        let name = name_or(self.source.text, t.word1, why);
+        self.put_ident(t, name)
+    }
+
+    // A name after which reading is refused with 17, or with what the name is refused for.
+    pub fn parse_pragma_name(&mut self) -> Result<(), Stop>
+        requires { self.old.state.next < 4294967296 }
+        ensures reads { Read (λ s. name_by s pragma_refusal (λ w. w)) self.old self.new result }
+        ensures within { IfOk result (λ _. Went 1 2 0 self.old self.new) }
+    {
+        let t = self.symbol()?;
+        Err(Stop {
+            why: pragma_ground(spelling(self.source.text, t.word1)),
+            place: t.pos,
+            taken: after(self.source.tokens, self.state.next),
+        })
+    }
 }

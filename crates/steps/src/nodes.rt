@@ -5,101 +5,104 @@ ghost use Rattle.trees.specs.Tree.{head};
 ghost use Rattle.tokens.specs.Token.{is_symbol, is_const};
 ghost use Rattle.tokens.specs.Input.{peek, pos_at};
 ghost use Rattle.steps.specs.Outcome.{parent, parse_ident, parse_const};
-ghost use Rattle.steps.specs.Met.{seen, Chained, Closed, Leafed, Ready, Within, Near};
+ghost use Rattle.steps.specs.Met.{Near};
+ghost use Rattle.steps.specs.Read.{read_by, Read, ClosedBy, LeafedBy, Begins, Went};
 
-use crate::names::{put_const, put_name};
-use crate::{Source, State, Stop, inside, next_pos};
+use crate::{Parser, State, Stop};
 use reader::after;
 use tally::emit_at;
 use tokens::Token;
 use trees::{Head, Kind};
 
-// The node h, begun at p, over the children that q has read. Its record goes to the slot that was left free for it; the number
-// after that one is not taken, since the children were counted already.
-pub fn close(out: &mut [u8], p: State, h: Head, q: State) -> State
-    requires near { Near p }
-    requires few { q.items < 65536 }
-    ensures { Closed h p q out.old out.new result }
-{
-    emit_at(out, p.count, h.over(q.items as u16));
-    State {
-        next: q.next,
-        count: q.count,
-        items: p.items + 1,
+impl Parser<'_> {
+    // The node h, begun at `node`, is closed over the children read since. Its record goes to the slot that was left free for it; the number
+    // after that one is not taken, since the children were counted already.
+    pub fn close(&mut self, node: State, h: Head)
+        requires near { Near node }
+        requires few { self.old.state.items < 65536 }
+        ensures { ClosedBy h node self.old self.new }
+    {
+        emit_at(self.out, node.count, h.over(self.state.items as u16));
+        self.state.items = node.items + 1;
     }
-}
 
-// The same for a node without words, at the position of its first token.
-pub fn close_at(s: &Source, out: &mut [u8], p: State, kind: Kind, flags: u8, q: State) -> State
-    requires near { Near p }
-    requires few { q.items < 65536 }
-    ensures { Closed (head (kind_number kind) flags (pos_at (seen s.now) p.next) 0 0) p q out.old out.new result }
-{
-    close(out, p, Head::plain(kind, flags, next_pos(s, p)), q)
-}
+    // The same for a node without words, at the position of its first token.
+    pub fn close_at(&mut self, node: State, kind: Kind, flags: u8)
+        requires near { Near node }
+        requires few { self.old.state.items < 65536 }
+        ensures { ClosedBy (head (kind_number kind) flags (pos_at (read_by self.old) node.next) 0 0) node self.old self.new }
+    {
+        let pos = self.pos_at(node.next);
+        self.close(node, Head::plain(kind, flags, pos));
+    }
 
-// The same by its first token t.
-pub fn close_of(out: &mut [u8], p: State, kind: Kind, flags: u8, q: State, t: Token) -> State
-    requires near { Near p }
-    requires few { q.items < 65536 }
-    ensures { Closed (head (kind_number kind) flags t.pos 0 0) p q out.old out.new result }
-{
-    close(out, p, Head::plain(kind, flags, t.pos), q)
-}
+    // The same by its first token t.
+    pub fn close_of(&mut self, node: State, kind: Kind, flags: u8, t: Token)
+        requires near { Near node }
+        requires few { self.old.state.items < 65536 }
+        ensures { ClosedBy (head (kind_number kind) flags t.pos 0 0) node self.old self.new }
+    {
+        self.close(node, Head::plain(kind, flags, t.pos));
+    }
 
-// A node without children, of one token.
-pub fn put_leaf(s: &Source, out: &mut [u8], p: State, h: Head) -> State
-    requires { Near p }
-    ensures { Leafed h p out.old out.new result }
-{
-    let q = State {
-        next: after(s.tokens, p.next),
-        count: p.count + 1,
-        items: 0,
-    };
-    close(out, p, h, q)
-}
+    // A node without children, of one token.
+    pub fn put_leaf(&mut self, h: Head)
+        requires { Near self.old.state }
+        ensures { LeafedBy h self.old self.new }
+    {
+        let count = emit_at(self.out, self.state.count, h.over(0));
+        self.state = State {
+            next: after(self.source.tokens, self.state.next),
+            count,
+            items: self.state.items + 1,
+        };
+    }
 
-// The same without words, by the next token t.
-pub fn leaf_of(s: &Source, out: &mut [u8], p: State, kind: Kind, flags: u8, t: Token) -> State
-    requires { Near p }
-    ensures { Leafed (head (kind_number kind) flags t.pos 0 0) p out.old out.new result }
-{
-    put_leaf(s, out, p, Head::plain(kind, flags, t.pos))
-}
+    // The same without words, by the next token t.
+    pub fn leaf_of(&mut self, kind: Kind, flags: u8, t: Token)
+        requires { Near self.old.state }
+        ensures { LeafedBy (head (kind_number kind) flags t.pos 0 0) self.old self.new }
+    {
+        self.put_leaf(Head::plain(kind, flags, t.pos));
+    }
 
-// A node over one name, by the next token t, a symbol, which its caller has read already.
-pub fn ident_node_of(
-    s: &Source,
-    out: &mut [u8],
-    p: State,
-    kind: Kind,
-    t: Token,
-) -> Result<State, Stop>
-    requires ready { Ready 8 (seen s.now) p }
-    requires next { t ≡ peek (seen s.now) p.next }
-    requires symbol { is_symbol t ≡ true }
-    ensures reads { Chained (parent (seen s.now) (kind_number kind) 0 (parse_ident (seen s.now))) p out.old out.new result }
-    ensures within { IfOk result (Within 1 1 0 (seen s.now) p) }
-{
-    let q = put_name(s, out, inside(p), t)?;
-    Ok(close_of(out, p, kind, 0, q, t))
-}
+    // An integer, by the next token t.
+    pub fn int_of(&mut self, kind: Kind, t: Token)
+        requires { Near self.old.state }
+        ensures { LeafedBy (head (kind_number kind) 0 t.pos t.word1 t.word2) self.old self.new }
+    {
+        self.put_leaf(Head {
+            word1: t.word1,
+            word2: t.word2,
+            ..Head::plain(kind, 0, t.pos)
+        });
+    }
 
-// A node over the name of a constant, by the next token t, which starts with `$`.
-pub fn const_node_of(
-    s: &Source,
-    out: &mut [u8],
-    p: State,
-    kind: Kind,
-    t: Token,
-) -> Result<State, Stop>
-    requires ready { Ready 8 (seen s.now) p }
-    requires next { t ≡ peek (seen s.now) p.next }
-    requires constant { is_const s.now.text.now t ≡ true }
-    ensures reads { Chained (parent (seen s.now) (kind_number kind) 0 (parse_const (seen s.now))) p out.old out.new result }
-    ensures within { IfOk result (Within 1 1 0 (seen s.now) p) }
-{
-    let q = put_const(s, out, inside(p), t)?;
-    Ok(close_of(out, p, kind, 0, q, t))
+    // A node over one name, by the next token t, a symbol, which its caller has read already.
+    pub fn ident_node_of(&mut self, kind: Kind, t: Token) -> Result<(), Stop>
+        requires ready { Begins 8 self.old }
+        requires next { t ≡ peek (read_by self.old) self.old.state.next }
+        requires symbol { is_symbol t ≡ true }
+        ensures reads { Read (λ s. parent s (kind_number kind) 0 (parse_ident s)) self.old self.new result }
+        ensures within { IfOk result (λ _. Went 1 1 0 self.old self.new) }
+    {
+        let node = self.begin();
+        self.put_name(t)?;
+        self.close_of(node, kind, 0, t);
+        Ok(())
+    }
+
+    // A node over the name of a constant, by the next token t, which starts with `$`.
+    pub fn const_node_of(&mut self, kind: Kind, t: Token) -> Result<(), Stop>
+        requires ready { Begins 8 self.old }
+        requires next { t ≡ peek (read_by self.old) self.old.state.next }
+        requires constant { is_const self.old.source.text.now t ≡ true }
+        ensures reads { Read (λ s. parent s (kind_number kind) 0 (parse_const s)) self.old self.new result }
+        ensures within { IfOk result (λ _. Went 1 1 0 self.old self.new) }
+    {
+        let node = self.begin();
+        self.put_const(t)?;
+        self.close_of(node, kind, 0, t);
+        Ok(())
+    }
 }

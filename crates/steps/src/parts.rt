@@ -3,39 +3,19 @@ ghost use Rattle.std.specs.Prelude.{◌≡◌, ℕ, Bool, ◌+◌, ◌≤◌, �
 ghost use Rattle.tokens.specs.Token.{is_rparen};
 ghost use Rattle.tokens.specs.Input.{Input, peek, size};
 ghost use Rattle.steps.specs.Outcome.{◌⊳◌, Reader, many_at, row, expect-lparen, expect-rparen, expect-word, parse_ident};
-ghost use Rattle.steps.specs.Met.{seen, Chained, ChainedAt, Ready, Within};
+ghost use Rattle.steps.specs.Read.{read_by, Read, ReadAt, Begins, Went};
 
-use crate::names::parse_ident;
-use crate::{Source, State, Stop, expect_lparen, expect_rparen, expect_word_of};
-use tokens::{Token, kind_at};
+use crate::{Parser, Stop};
+use tokens::Token;
 
 // What stands in parentheses after a word: how it is read.
 pub trait Part {
     ghost reader: { Input → Reader };
 
-    fn parse(s: &Source, out: &mut [u8], p: State) -> Result<State, Stop>
-        requires { Ready 1 (seen s.now) p }
-        ensures reads { Chained (reader (seen s.now)) p out.old out.new result }
-        ensures within { IfOk result (Within 0 0 1 (seen s.now) p) };
-}
-
-// `(w ..)`, where u is the second token, the word w.
-pub fn parse_worded<P: Part>(
-    s: &Source,
-    out: &mut [u8],
-    p: State,
-    w: &[u8],
-    u: Token,
-) -> Result<State, Stop>
-    requires ready { Ready 4 (seen s.now) p }
-    requires second { u ≡ peek (seen s.now) (p.next + 1) }
-    ensures reads { Chained (expect-lparen (seen s.now) ⊳ expect-word (seen s.now) w.now ⊳ P.reader (seen s.now) ⊳ expect-rparen (seen s.now)) p out.old out.new result }
-    ensures within { IfOk result (Within 1 1 0 (seen s.now) p) }
-{
-    let open = expect_lparen(s, p)?;
-    let word = expect_word_of(s, open, w, u)?;
-    let q = P::parse(s, out, word)?;
-    expect_rparen(s, q)
+    fn parse(p: &mut Parser) -> Result<(), Stop>
+        requires { Begins 1 p.old }
+        ensures reads { Read reader p.old p.new result }
+        ensures within { IfOk result (λ _. Went 0 0 1 p.old p.new) };
 }
 
 // What stands in a row: how it is read, and that it takes a token at least; where the row ends.
@@ -44,34 +24,14 @@ pub trait Item {
 
     ghost stop: { Input → ℕ → Bool };
 
-    fn parse(s: &Source, out: &mut [u8], p: State) -> Result<State, Stop>
-        requires { Ready 4 (seen s.now) p }
-        ensures reads { ChainedAt (reader (seen s.now)) p out.old out.new result }
-        ensures within { IfOk result (Within 1 0 0 (seen s.now) p) };
+    fn parse(p: &mut Parser) -> Result<(), Stop>
+        requires { Begins 4 p.old }
+        ensures reads { ReadAt reader p.old p.new result }
+        ensures within { IfOk result (λ _. Went 1 0 0 p.old p.new) };
 
-    fn ends(s: &Source, p: State) -> bool
-        requires { p.next < 4294967296 }
-        ensures { result ≡ stop (seen s.now) p.next };
-}
-
-// Whether a `)` stands next.
-pub fn at_rparen(s: &Source, p: State) -> bool
-    ensures { result ≡ is_rparen (peek (seen s.now) p.next) }
-{
-    kind_at(s.tokens, p.next) == Token::RPAREN
-}
-
-// The items of a row, as many as there are.
-pub fn parse_row<I: Item>(s: &Source, out: &mut [u8], p: State) -> Result<State, Stop>
-    requires { Ready 4 (seen s.now) p }
-    ensures reads { ChainedAt (many_at (size (seen s.now)) (I.stop (seen s.now)) (I.reader (seen s.now))) p out.old out.new result }
-    ensures within { IfOk result (Within 0 0 0 (seen s.now) p) }
-{
-    let mut q = p;
-    while !I::ends(s, q) {
-        q = I::parse(s, out, q)?;
-    }
-    Ok(q)
+    fn ends(p: &Parser) -> bool
+        requires { p.now.state.next < 4294967296 }
+        ensures { result ≡ stop (read_by p.now) p.now.state.next };
 }
 
 // An identifier in a row that ends at a `)`.
@@ -82,20 +42,54 @@ impl Item for Ident {
 
     ghost stop = { λ s i. is_rparen (peek s i) };
 
-    fn parse(s: &Source, out: &mut [u8], p: State) -> Result<State, Stop> {
-        parse_ident(s, out, p)
+    fn parse(p: &mut Parser) -> Result<(), Stop> {
+        p.parse_ident()
     }
 
-    fn ends(s: &Source, p: State) -> bool {
-        at_rparen(s, p)
+    fn ends(p: &Parser) -> bool {
+        p.at_rparen()
     }
 }
 
-// Identifiers up to a `)`, which is left.
-pub fn parse_idents(s: &Source, out: &mut [u8], p: State) -> Result<State, Stop>
-    requires { Ready 4 (seen s.now) p }
-    ensures reads { Chained (row (seen s.now) (parse_ident (seen s.now))) p out.old out.new result }
-    ensures within { IfOk result (Within 0 0 0 (seen s.now) p) }
-{
-    parse_row::<Ident>(s, out, p)
+impl Parser<'_> {
+    // `(w ..)`, where u is the second token, the word w.
+    pub fn parse_worded<P: Part>(&mut self, w: &[u8], u: Token) -> Result<(), Stop>
+        requires ready { Begins 5 self.old }
+        requires second { u ≡ peek (read_by self.old) (self.old.state.next + 1) }
+        ensures reads { Read (λ s. expect-lparen s ⊳ expect-word s w.now ⊳ P.reader s ⊳ expect-rparen s) self.old self.new result }
+        ensures within { IfOk result (λ _. Went 1 1 0 self.old self.new) }
+    {
+        self.expect_lparen()?;
+        self.expect_word_of(w, u)?;
+        P::parse(self)?;
+        self.expect_rparen()
+    }
+
+    // Whether a `)` stands next.
+    pub fn at_rparen(&self) -> bool
+        ensures { result ≡ is_rparen (peek (read_by self.now) self.now.state.next) }
+    {
+        self.next_kind() == Token::RPAREN
+    }
+
+    // The items of a row, as many as there are.
+    pub fn parse_row<I: Item>(&mut self) -> Result<(), Stop>
+        requires { Begins 4 self.old }
+        ensures reads { ReadAt (λ s. many_at (size s) (I.stop s) (I.reader s)) self.old self.new result }
+        ensures within { IfOk result (λ _. Went 0 0 0 self.old self.new) }
+    {
+        while !I::ends(self) {
+            I::parse(self)?;
+        }
+        Ok(())
+    }
+
+    // Identifiers up to a `)`, which is left.
+    pub fn parse_idents(&mut self) -> Result<(), Stop>
+        requires { Begins 4 self.old }
+        ensures reads { Read (λ s. row s (parse_ident s)) self.old self.new result }
+        ensures within { IfOk result (λ _. Went 0 0 0 self.old self.new) }
+    {
+        self.parse_row::<Ident>()
+    }
 }

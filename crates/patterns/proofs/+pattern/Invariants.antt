@@ -1,8 +1,8 @@
 use Rattle.std.proofs.Common.{ℕ, suc, ◌+◌, ◌-◌, ◌*◌}
 use Rattle.tokens.specs.Token.{is_rparen}
 use Rattle.tokens.specs.Input.{peek, size}
-use Rattle.steps.specs.Met.{seen, Ready, Within}
-use Rattle.steps.proofs.RowLaws.{Going}
+use Rattle.steps.specs.Read.{read_by}
+use Rattle.steps.proofs.ReadLaws.{Turning}
 use Rattle.patterns.specs.Pattern.{parse_pattern}
 use Rattle.patterns.proofs.+pattern.Given as goal
 
@@ -24,8 +24,8 @@ decreases-parse_patterns l = 4 * l.depth + 1
 abbrev pub decreases-parse_term : goal.decreases-parse_term
 decreases-parse_term l = 4 * l.depth + 2
 
-abbrev pub invariant-parse_patterns-loop-out : goal.invariant-parse_patterns-loop-out
-invariant-parse_patterns-loop-out l = record { going : Going (seen l.s) (λ i. is_rparen (peek (seen l.s) i)) (λ _. parse_pattern (seen l.s) l.depth) l.initial.q l.initial.out l.q l.out; ready : Ready 4 (seen l.s) l.q; within : Within 0 0 0 (seen l.s) l.initial.q l.q }
+abbrev pub invariant-parse_patterns-loop-p : goal.invariant-parse_patterns-loop-p
+invariant-parse_patterns-loop-p l = Turning (λ s i. is_rparen (peek s i)) (λ s _. parse_pattern s l.depth) l.initial.p l.p
 
-abbrev pub decreases-parse_patterns-loop-out : goal.decreases-parse_patterns-loop-out
-decreases-parse_patterns-loop-out l = suc (size (seen l.s)) - l.q.next
+abbrev pub decreases-parse_patterns-loop-p : goal.decreases-parse_patterns-loop-p
+decreases-parse_patterns-loop-p l = suc (size (read_by l.initial.p)) - l.p.state.next

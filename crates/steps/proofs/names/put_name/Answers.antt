@@ -1,5 +1,0 @@
-use Rattle.steps.proofs.NameLaws.{named_nonempty}
-use Rattle.steps.proofs.names.put_name.Goals as goal
-
-pub put_ident-requires-clause-nonempty : goal.put_ident-requires-clause-nonempty
-put_ident-requires-clause-nonempty c = named_nonempty _ _ _ c.ident_name.ensures

@@ -1,9 +1,0 @@
-use Rattle.std.proofs.Common.{◌∙◌, ap}
-use lib.Dec.{eqb}
-use Rattle.tokens.proofs.TokenLaws.{kind-is}
-use Rattle.tokens.specs.Token.{is_rparen}
-use Rattle.steps.proofs.parts.at_rparen.Goals as goal
-
-pub returns : goal.returns
-unfolding is_rparen
-returns c = ap (λ x. eqb x 2) (c.kind_at.ensures ∙ kind-is _ c.args.s.now.end _)
