@@ -7,12 +7,12 @@ use Rattle.trees.specs.Ast.{kind_expr_term, kind_expr_var, kind_expr_const_bool,
 use Rattle.tokens.specs.Token.{is_lparen, is_rparen, is_symbol, is_int, is_const, is_word}
 use Rattle.tokens.specs.Input.{Input, peek}
 use Rattle.std.specs.Prelude.{Result}
-use Rattle.steps.specs.declared.State.{State}
+use Rattle.steps.specs.declared.Parser.{Parser}
 use Rattle.steps.specs.declared.Stop.{Stop}
 use Rattle.steps.specs.Keywords.{word-true, word-false, word_let}
 use Rattle.steps.specs.Outcome.{Reader, ◌⊳◌, parent, leaf, plain, refuse_at, if_next, row, expect-lparen, expect-rparen, expect-word, parse_ident, parse_const}
 use Rattle.steps.specs.Sizes.{Bounded}
-use Rattle.steps.specs.Met.{Chained}
+use Rattle.steps.specs.Read.{read_by, Read}
 use Rattle.steps.proofs.SizeLaws.{Steady, Item, steady, item, then_bounded, parent-bounded, next-bounded, second-bounded, leaf-bounded, refuse-bounded, int_kinded, word_kinded, lparen-bounded, rparen-bounded, word-bounded, ident-bounded, const_bounded}
 use Rattle.steps.proofs.RowLaws.{row_steady}
 use Rattle.exprs.specs.Expr.{const_int, parse_letdef, let_inside, parse_expr_inner_parens, expr_in, parse_expr}
@@ -125,10 +125,9 @@ unfolding parse_expr
 one_less s zero h = absurd (h refl)
 one_less s (suc d) h = let e : suc d - 1 ≡ d = omega arith in rw e
 
-module _ (s : Input) (d : ℕ) {p : State} {r : Result State Stop} {l l' : List ℕ} where
-  pub too_deep : d ≡ 0 → Chained (refuse_at s 8) p l l' r → Chained (parse_expr s d) p l l' r
-  unfolding parse_expr
-  too_deep e m = rw e m
+pub too_deep : (d : ℕ) {p p' : Parser} {r : Result (Unit {0}) Stop} → d ≡ 0 → Read (λ s. refuse_at s 8) p p' r → Read (λ s. parse_expr s d) p p' r
+unfolding parse_expr
+too_deep d e m = rw e m
 
-  pub not_too_deep : (d ≡ 0 → ⊥) → Chained (expr_in s (parse_expr s (d - 1))) p l l' r → Chained (parse_expr s d) p l l' r
-  not_too_deep z m = rw (one_less s d z) m
+pub not_too_deep : (d : ℕ) {p p' : Parser} {r : Result (Unit {0}) Stop} → (d ≡ 0 → ⊥) → Read (λ s. expr_in s (parse_expr s (d - 1))) p p' r → Read (λ s. parse_expr s d) p p' r
+not_too_deep d {p = p} z m = record { read = rw (one_less (read_by p) d z) m.read; same = m.same }

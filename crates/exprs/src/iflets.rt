@@ -2,14 +2,13 @@
 ghost use Rattle.std.specs.Prelude.{◌≡◌, ℕ, ◌+◌, ◌≤◌, ◌<◌, IfOk};
 ghost use Rattle.tokens.specs.Input.{size};
 ghost use Rattle.steps.specs.Outcome.{many};
-ghost use Rattle.steps.specs.Met.{seen, Ready, Within, Chained};
+ghost use Rattle.steps.specs.Read.{read_by, Read, Begins, Went};
 ghost use Rattle.exprs.specs.Expr.{parse_iflet, parse_iflet_if, parse_iflet_or_expr, no_iflet};
 
 use crate::parse_expr;
 use patterns::parse_pattern;
-use steps::nodes::close_at;
-use steps::parts::{Item, Part, parse_row, parse_worded};
-use steps::{Source, State, Stop, inside, next_token, second_token};
+use steps::parts::{Item, Part};
+use steps::{Parser, Stop};
 use trees::Kind;
 
 // After `if-let`: a pattern and an expression.
@@ -18,10 +17,11 @@ pub struct IfLet;
 impl Part for IfLet {
     ghost reader = { parse_iflet };
 
-    fn parse(s: &Source, out: &mut [u8], p: State) -> Result<State, Stop> {
-        let pattern = parse_pattern(s, out, inside(p), 64)?;
-        let q = parse_expr(s, out, pattern, 64)?;
-        Ok(close_at(s, out, p, Kind::IfLet, 0, q))
+    fn parse(p: &mut Parser) -> Result<(), Stop> {
+        let node = p.begin();
+        parse_pattern(p, 64)?;
+        parse_expr(p, 64)?;
+        Ok(p.close_at(node, Kind::IfLet, 0))
     }
 }
 
@@ -31,44 +31,45 @@ pub struct If;
 impl Part for If {
     ghost reader = { parse_iflet_if };
 
-    fn parse(s: &Source, out: &mut [u8], p: State) -> Result<State, Stop> {
-        let children = inside(p);
-        let wildcard = close_at(s, out, children, Kind::PatternWildcard, 0, inside(children));
-        let q = parse_expr(s, out, wildcard, 64)?;
-        Ok(close_at(s, out, p, Kind::IfLet, 0, q))
+    fn parse(p: &mut Parser) -> Result<(), Stop> {
+        let node = p.begin();
+        let wildcard = p.begin();
+        p.close_at(wildcard, Kind::PatternWildcard, 0);
+        parse_expr(p, 64)?;
+        Ok(p.close_at(node, Kind::IfLet, 0))
     }
 }
 
 // An if-let, or the expression that ends a rule.
-pub fn parse_iflet_or_expr(s: &Source, out: &mut [u8], p: State) -> Result<State, Stop>
-    requires { Ready 4 (seen s.now) p }
-    ensures reads { Chained (parse_iflet_or_expr (seen s.now)) p out.old out.new result }
-    ensures within { IfOk result (Within 1 1 0 (seen s.now) p) }
+pub fn parse_iflet_or_expr(p: &mut Parser) -> Result<(), Stop>
+    requires { Begins 4 p.old }
+    ensures reads { Read parse_iflet_or_expr p.old p.new result }
+    ensures within { IfOk result (λ _. Went 1 1 0 p.old p.new) }
 {
-    if next_token(s, p).is_lparen() {
-        let u = second_token(s, p);
-        if u.is_word(s.text, b"if-let") {
-            return parse_worded::<IfLet>(s, out, p, b"if-let", u);
+    if p.next_token().is_lparen() {
+        let u = p.second_token();
+        if u.is_word(p.source.text, b"if-let") {
+            return p.parse_worded::<IfLet>(b"if-let", u);
         }
-        if u.is_word(s.text, b"if") {
-            return parse_worded::<If>(s, out, p, b"if", u);
+        if u.is_word(p.source.text, b"if") {
+            return p.parse_worded::<If>(b"if", u);
         }
-        return parse_expr(s, out, p, 64);
+        return parse_expr(p, 64);
     }
-    parse_expr(s, out, p, 64)
+    parse_expr(p, 64)
 }
 
-// Whether no more if-let stands at p.
-fn no_iflet(s: &Source, p: State) -> bool
-    requires { p.next < 4294967296 }
-    ensures { result ≡ no_iflet (seen s.now) p.next }
+// Whether no more if-let stands next.
+fn no_iflet(p: &Parser) -> bool
+    requires { p.now.state.next < 4294967296 }
+    ensures { result ≡ no_iflet (read_by p.now) p.now.state.next }
 {
-    if next_token(s, p).is_lparen() {
-        let u = second_token(s, p);
-        if u.is_word(s.text, b"if-let") {
+    if p.next_token().is_lparen() {
+        let u = p.second_token();
+        if u.is_word(p.source.text, b"if-let") {
             return false;
         }
-        return !u.is_word(s.text, b"if");
+        return !u.is_word(p.source.text, b"if");
     }
     true
 }
@@ -81,20 +82,20 @@ impl Item for IfLets {
 
     ghost stop = { no_iflet };
 
-    fn parse(s: &Source, out: &mut [u8], p: State) -> Result<State, Stop> {
-        parse_iflet_or_expr(s, out, p)
+    fn parse(p: &mut Parser) -> Result<(), Stop> {
+        parse_iflet_or_expr(p)
     }
 
-    fn ends(s: &Source, p: State) -> bool {
-        no_iflet(s, p)
+    fn ends(p: &Parser) -> bool {
+        no_iflet(p)
     }
 }
 
 // The if-lets before the expression that ends a rule.
-pub fn parse_iflets(s: &Source, out: &mut [u8], p: State) -> Result<State, Stop>
-    requires { Ready 4 (seen s.now) p }
-    ensures reads { Chained (many (size (seen s.now)) (no_iflet (seen s.now)) (parse_iflet_or_expr (seen s.now))) p out.old out.new result }
-    ensures within { IfOk result (Within 0 0 0 (seen s.now) p) }
+pub fn parse_iflets(p: &mut Parser) -> Result<(), Stop>
+    requires { Begins 4 p.old }
+    ensures reads { Read (λ s. many (size s) (no_iflet s) (parse_iflet_or_expr s)) p.old p.new result }
+    ensures within { IfOk result (λ _. Went 0 0 0 p.old p.new) }
 {
-    parse_row::<IfLets>(s, out, p)
+    p.parse_row::<IfLets>()
 }

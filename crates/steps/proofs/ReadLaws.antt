@@ -172,6 +172,14 @@ module _ (kind : ℕ) {f : Input → Reader} {p p₁ p₂ : Parser} where
   unfolding came_to
   flagged_stopped flags {d = d} b m = record { read = met.flagged_stopped (read_by p) kind (flags (read_by p)) {f = f (read_by p)} {p = p.state} {q₀ = p₁.state} {d = d} {l = p.out.now} {l₁ = p₂.out.now} b.inside (children f p p₁ p₂ (Err d) b m); same = same_then b.same m.same }
 
+-- nothing
+pub nothing_read : {p : Parser} {u : Unit {0}} → Read (λ _. nothing) p p (Ok u)
+nothing_read {p = p} = stepped unmoved refl (met.nothing_read p.state p.out.now)
+
+-- a node over nothing
+pub empty_node : (kind : ℕ) {flags : ℕ} {p p₁ p₂ : Parser} {n : State} → n ≡ p.state → Begun p p₁ → ClosedBy (head kind flags (pos_at (read_by p₁) n.next) 0 0) n p₁ p₂ → Read (λ s. parent s kind flags nothing) p p₂ (Ok tt)
+empty_node kind z b c = node_at kind z b (nothing_read {u = tt}) c
+
 -- a leaf, by its token
 pub leaf_read : (h : Token → Head) {p p' : Parser} {t : Token} {u : Unit {0}} → t ≡ peek (read_by p) p.state.next → LeafedBy (h t) p p' → Read (λ s. leaf s h) p p' (Ok u)
 unfolding came_to

@@ -1,8 +1,8 @@
 use Rattle.std.proofs.Common.{ℕ, suc, ◌+◌, ◌-◌, ◌*◌}
 use Rattle.tokens.specs.Token.{is_rparen}
 use Rattle.tokens.specs.Input.{peek, size}
-use Rattle.steps.specs.Met.{seen, Ready, Within}
-use Rattle.steps.proofs.RowLaws.{Going}
+use Rattle.steps.specs.Read.{read_by}
+use Rattle.steps.proofs.ReadLaws.{Turning}
 use Rattle.exprs.specs.Expr.{parse_letdef, parse_expr}
 use Rattle.exprs.proofs.+expr.Given as goal
 
@@ -27,14 +27,14 @@ decreases-parse_letdef l = 6 * l.depth + 1
 abbrev pub decreases-parse_letdefs : goal.decreases-parse_letdefs
 decreases-parse_letdefs l = 6 * l.depth + 2
 
-abbrev pub invariant-parse_exprs-loop-out : goal.invariant-parse_exprs-loop-out
-invariant-parse_exprs-loop-out l = record { going : Going (seen l.s) (λ i. is_rparen (peek (seen l.s) i)) (λ _. parse_expr (seen l.s) l.depth) l.initial.q l.initial.out l.q l.out; ready : Ready 4 (seen l.s) l.q; within : Within 0 0 0 (seen l.s) l.initial.q l.q }
+abbrev pub invariant-parse_exprs-loop-p : goal.invariant-parse_exprs-loop-p
+invariant-parse_exprs-loop-p l = Turning (λ s i. is_rparen (peek s i)) (λ s _. parse_expr s l.depth) l.initial.p l.p
 
-abbrev pub decreases-parse_exprs-loop-out : goal.decreases-parse_exprs-loop-out
-decreases-parse_exprs-loop-out l = suc (size (seen l.s)) - l.q.next
+abbrev pub decreases-parse_exprs-loop-p : goal.decreases-parse_exprs-loop-p
+decreases-parse_exprs-loop-p l = suc (size (read_by l.initial.p)) - l.p.state.next
 
-abbrev pub invariant-parse_letdefs-loop-out : goal.invariant-parse_letdefs-loop-out
-invariant-parse_letdefs-loop-out l = record { going : Going (seen l.s) (λ i. is_rparen (peek (seen l.s) i)) (λ _. parse_letdef (seen l.s) (parse_expr (seen l.s) l.depth)) l.initial.q l.initial.out l.q l.out; ready : Ready 4 (seen l.s) l.q; within : Within 0 0 0 (seen l.s) l.initial.q l.q }
+abbrev pub invariant-parse_letdefs-loop-p : goal.invariant-parse_letdefs-loop-p
+invariant-parse_letdefs-loop-p l = Turning (λ s i. is_rparen (peek s i)) (λ s _. parse_letdef s (parse_expr s l.depth)) l.initial.p l.p
 
-abbrev pub decreases-parse_letdefs-loop-out : goal.decreases-parse_letdefs-loop-out
-decreases-parse_letdefs-loop-out l = suc (size (seen l.s)) - l.q.next
+abbrev pub decreases-parse_letdefs-loop-p : goal.decreases-parse_letdefs-loop-p
+decreases-parse_letdefs-loop-p l = suc (size (read_by l.initial.p)) - l.p.state.next
