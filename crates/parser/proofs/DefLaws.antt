@@ -13,10 +13,12 @@ use Rattle.tokens.specs.Input.{Input, input, peek, size}
 use Rattle.steps.specs.Keywords.{word_pragma, word_type, word_decl, word_attr, word-rule, word-extractor, word_extern, word_convert, word_spec, word_macro, word_state, word_model, word_form, word_instantiate, word_veri, word_tag, word_chain, word-priority}
 use Rattle.steps.specs.Outcome.{Reader, ◌⊳◌, bare, refuse_after, if_next, if_second, row, expect-lparen, expect-rparen, expect-word, ate, eat, parse_ident}
 use Rattle.std.specs.Prelude.{Result, Ok, Err}
+use Rattle.steps.specs.declared.Parser.{Parser}
 use Rattle.steps.specs.declared.State.{State}
 use Rattle.steps.specs.declared.Stop.{Stop}
 use Rattle.steps.specs.Sizes.{Bounded}
 use Rattle.steps.specs.Met.{Chained}
+use Rattle.steps.specs.Read.{read_by, Read}
 use Rattle.steps.proofs.MetLaws.{second_yes, second_no}
 use Rattle.steps.proofs.SizeLaws.{Steady, Item, steady, item, less_bounded, then_bounded, bare-bounded, flagged-bounded, next-bounded, second-bounded, after-bounded, eat_steady, lparen-bounded, rparen-bounded, word-bounded, ident-bounded, pragma_bounded}
 use Rattle.steps.proofs.RowLaws.{row_steady}
@@ -128,35 +130,13 @@ module _ (s : Input) where
 
 -- ---- words that are not covered
 
-module _ (text : List ℕ) (t : Token) where
-  pub uncovered_1 : (a : Bool) → a ≡ is_word text word_spec t → a ≡ true → true ≡ is_uncovered text t
-  unfolding is_uncovered
-  uncovered_1 a a₁ a₂ = rw (← a₁, a₂)
-
-  pub uncovered_2 : (a b : Bool) → a ≡ is_word text word_spec t → a ≡ false → b ≡ is_word text word_macro t → b ≡ true → true ≡ is_uncovered text t
-  unfolding is_uncovered
-  uncovered_2 a b a₁ a₂ b₁ b₂ = rw (← a₁, a₂, ← b₁, b₂)
-
-  pub uncovered_3 : (a b c : Bool) → a ≡ is_word text word_spec t → a ≡ false → b ≡ is_word text word_macro t → b ≡ false → c ≡ is_word text word_state t → c ≡ true → true ≡ is_uncovered text t
-  unfolding is_uncovered
-  uncovered_3 a b c a₁ a₂ b₁ b₂ c₁ c₂ = rw (← a₁, a₂, ← b₁, b₂, ← c₁, c₂)
-
-  pub uncovered_4 : (a b c d : Bool) → a ≡ is_word text word_spec t → a ≡ false → b ≡ is_word text word_macro t → b ≡ false → c ≡ is_word text word_state t → c ≡ false → d ≡ is_word text word_model t → d ≡ true → true ≡ is_uncovered text t
-  unfolding is_uncovered
-  uncovered_4 a b c d a₁ a₂ b₁ b₂ c₁ c₂ d₁ d₂ = rw (← a₁, a₂, ← b₁, b₂, ← c₁, c₂, ← d₁, d₂)
-
-  pub uncovered_5 : (a b c d e : Bool) → a ≡ is_word text word_spec t → a ≡ false → b ≡ is_word text word_macro t → b ≡ false → c ≡ is_word text word_state t → c ≡ false → d ≡ is_word text word_model t → d ≡ false → e ≡ is_word text word_form t → e ≡ true → true ≡ is_uncovered text t
-  unfolding is_uncovered
-  uncovered_5 a b c d e a₁ a₂ b₁ b₂ c₁ c₂ d₁ d₂ e₁ e₂ = rw (← a₁, a₂, ← b₁, b₂, ← c₁, c₂, ← d₁, d₂, ← e₁, e₂)
-
-  pub uncovered_6 : (a b c d e f : Bool) → a ≡ is_word text word_spec t → a ≡ false → b ≡ is_word text word_macro t → b ≡ false → c ≡ is_word text word_state t → c ≡ false → d ≡ is_word text word_model t → d ≡ false → e ≡ is_word text word_form t → e ≡ false → f ≡ is_word text word_instantiate t → f ≡ is_uncovered text t
-  unfolding is_uncovered
-  uncovered_6 a b c d e f a₁ a₂ b₁ b₂ c₁ c₂ d₁ d₂ e₁ e₂ f₁ = rw (← a₁, a₂, ← b₁, b₂, ← c₁, c₂, ← d₁, d₂, ← e₁, e₂) f₁
-
-pub other_read : (s : Input) (u : Token) (x : ℕ) {p : State} {l l' : List ℕ} {r : Result State Stop} → u ≡ peek s (p.next + 1) → x ≡ pick (is_uncovered s.text u) 27 12 → Chained (expect-lparen s ⊳ refuse_after s 3 x) p l l' r → Chained (other_def s) p l l' r
+other_met : (s : Input) (u : Token) (x : ℕ) {p : State} {l l' : List ℕ} {r : Result State Stop} → u ≡ peek s (p.next + 1) → x ≡ pick (is_uncovered s.text u) 27 12 → Chained (expect-lparen s ⊳ refuse_after s 3 x) p l l' r → Chained (other_def s) p l l' r
 unfolding other_def
-other_read s u x {p = p} {l = l} {l' = l'} {r = r} a e m = go (is_uncovered s.text u) refl
+other_met s u x {p = p} {l = l} {l' = l'} {r = r} a e m = go (is_uncovered s.text u) refl
   where
     go : (b : Bool) → is_uncovered s.text u ≡ b → Chained (if_second s (is_uncovered s.text) (expect-lparen s ⊳ refuse_after s 3 27) (expect-lparen s ⊳ refuse_after s 3 12)) p l l' r
     go true f = let z : x ≡ 27 = e ∙ rw f in second_yes s (is_uncovered s.text) _ a (sym f) refl (subst (λ (y : ℕ). Chained (expect-lparen s ⊳ refuse_after s 3 y) p l l' r) z m)
     go false f = let z : x ≡ 12 = e ∙ rw f in second_no s (is_uncovered s.text) _ a (sym f) refl (subst (λ (y : ℕ). Chained (expect-lparen s ⊳ refuse_after s 3 y) p l l' r) z m)
+
+pub other_read : (u : Token) (x : ℕ) {p p' : Parser} {r : Result (Unit {0}) Stop} → u ≡ peek (read_by p) (p.state.next + 1) → x ≡ pick (is_uncovered p.source.text.now u) 27 12 → Read (λ s. expect-lparen s ⊳ refuse_after s 3 x) p p' r → Read other_def p p' r
+other_read u x {p = p} a e m = record { read = other_met (read_by p) u x a e m.read; same = m.same }

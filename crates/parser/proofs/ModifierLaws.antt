@@ -1,7 +1,7 @@
 -- A type's modifiers: how far they reach, and one law for each way through the code. Assumes nothing.
 use Prim.Native.Nat.{ℕ, zero, suc, ◌+◌, ◌<◌, ◌≤◌}
 use native.Mathlib.Omega.{arith}
-use mathlib.Core.Path.{◌≡◌, refl, sym, ap, ◌∙◌}
+use mathlib.Core.Path.{◌≡◌, refl, sym, ap, subst, ◌∙◌}
 use mathlib.Core.List.{List, [], ◌∷◌}
 use mathlib.Core.Bool.{Bool, true, false}
 use Rattle.trees.specs.Choice.{choose}
@@ -13,15 +13,20 @@ use Rattle.tokens.specs.Input.{Input, input, peek, pos_at, size}
 use Rattle.steps.specs.Keywords.{word_extern, word_nodebug}
 use Rattle.steps.specs.Outcome.{accept, refuse, refusal, parse_ident}
 use Rattle.std.specs.Prelude.{Result, Ok, Err, Option, Some, None}
+use Rattle.steps.specs.declared.Parser.{Parser}
+use Rattle.steps.specs.declared.Source.{Source}
 use Rattle.steps.specs.declared.State.{State}
 use Rattle.steps.specs.declared.Stop.{Stop}
 use Rattle.steps.specs.Sizes.{Bounded}
-use Rattle.steps.specs.Met.{state, Met, Moved}
+use Rattle.steps.specs.Met.{seen, state, Met, Moved}
+use Rattle.steps.specs.Read.{read_by, came_to, Same, Read}
 use Rattle.records.specs.declared.Ground.TheVariants.{TypeModifier}
 use Rattle.steps.proofs.MetLaws.{begun}
+use Rattle.steps.proofs.ReadLaws.{same_then, unmoved, moved, refused_here}
 use Rattle.steps.proofs.SizeLaws.{Steady, sized-accept, sized-refuse, sized-choose, met_there, word_kinded}
 use Rattle.parser.specs.Types.{modifier_flags, modifiers_end, parse_modifiers}
-use Rattle.parser.specs.Modified.{Turned, TurnedTo, ModifiedFrom}
+use Rattle.parser.specs.declared.types.Modifiers.{Modifiers}
+use Rattle.parser.specs.Modified.{external_of, nodebug_of, flags_of, Turned, TurnedTo, Modified, no_modifier}
 
 -- ---- how far
 
@@ -94,72 +99,115 @@ ends-zero : (s : Input) (i : ℕ) → modifiers_end s zero i ≡ i
 unfolding modifiers_end
 ends-zero s i = refl
 
-module _ (s : Input) (i e n : ℕ) (t : Token) (r : Bool) (b : (e ≤ 1) × (n ≤ 2)) (a : t ≡ peek s i) (p : r ≡ is_word s.text word_extern t) where
+module _ (s : Input) (i : ℕ) (m : Modifiers) (t : Token) (r : Bool) (a : t ≡ peek s i) (p : r ≡ is_word s.text word_extern t) where
   is_extern : {v : Bool} → r ≡ v → is_word s.text word_extern (peek s i) ≡ v
   is_extern q = ap (is_word s.text word_extern) (sym a) ∙ sym p ∙ q
 
   is_nodebug : {z v : Bool} → z ≡ is_word s.text word_nodebug t → z ≡ v → is_word s.text word_nodebug (peek s i) ≡ v
   is_nodebug u q = ap (is_word s.text word_nodebug) (sym a) ∙ sym u ∙ q
 
-  pub turned_extern : r ≡ true → TurnedTo s e n i (Some (1, n))
+  pub turned_extern : r ≡ true → TurnedTo s m i (Some (record { external = true; nodebug = m.nodebug }))
   unfolding TurnedTo
   turned_extern q = (
-    record { flags = λ f. flags_extern s e n i f (is_extern q); ends = λ f. ends_extern s i f (is_extern q); small = omega arith; few = b.1 },
+    record { flags = λ f. flags_extern s (external_of m) (nodebug_of m) i f (is_extern q); ends = λ f. ends_extern s i f (is_extern q) },
     met_there s i (is_word s.text word_extern) (word_kinded s.text word_extern) (is_extern q),
   )
 
-  pub turned_nodebug : (z : Bool) → r ≡ false → z ≡ is_word s.text word_nodebug t → z ≡ true → TurnedTo s e n i (Some (e, 2))
+  pub turned_nodebug : (z : Bool) → r ≡ false → z ≡ is_word s.text word_nodebug t → z ≡ true → TurnedTo s m i (Some (record { external = m.external; nodebug = true }))
   unfolding TurnedTo
   turned_nodebug z q u v = (
-    record { flags = λ f. flags_nodebug s e n i f (is_extern q) (is_nodebug u v); ends = λ f. ends_nodebug s i f (is_extern q) (is_nodebug u v); small = b.0; few = omega arith },
+    record { flags = λ f. flags_nodebug s (external_of m) (nodebug_of m) i f (is_extern q) (is_nodebug u v); ends = λ f. ends_nodebug s i f (is_extern q) (is_nodebug u v) },
     met_there s i (is_word s.text word_nodebug) (word_kinded s.text word_nodebug) (is_nodebug u v),
   )
 
-  pub turned_none : (z : Bool) → r ≡ false → z ≡ is_word s.text word_nodebug t → z ≡ false → TurnedTo s e n i None
+  pub turned_none : (z : Bool) → r ≡ false → z ≡ is_word s.text word_nodebug t → z ≡ false → TurnedTo s m i None
   unfolding TurnedTo
-  turned_none z q u v = record { flags = λ f. flags-none s e n i f (is_extern q) (is_nodebug u v); ends = λ f. ends-none s i f (is_extern q) (is_nodebug u v); small = b.0; few = b.1 }
+  turned_none z q u v = record { flags = λ f. flags-none s (external_of m) (nodebug_of m) i f (is_extern q) (is_nodebug u v); ends = λ f. ends-none s i f (is_extern q) (is_nodebug u v) }
 
 -- ---- the loop
 
-pub record Passing (s : Input) (from i e n : ℕ) : Type 0 where
+-- what is passed so far, from p on
+pub record Passing (p q : Parser) (m : Modifiers) : Type 0 where
   pub fuel : ℕ
-  pub total : fuel + i ≡ size s + from
-  pub flags : modifier_flags s (size s) 0 0 from ≡ modifier_flags s fuel e n i
-  pub ends : modifiers_end s (size s) from ≡ modifiers_end s fuel i
-  pub small : e ≤ 1
-  pub few : n ≤ 2
+  pub total : fuel + q.state.next ≡ size (read_by p) + p.state.next
+  pub flags : modifier_flags (read_by p) (size (read_by p)) 0 0 p.state.next ≡ modifier_flags (read_by p) fuel (external_of m) (nodebug_of m) q.state.next
+  pub ends : modifiers_end (read_by p) (size (read_by p)) p.state.next ≡ modifiers_end (read_by p) fuel q.state.next
+  pub counts : q.state ≡ state q.state.next p.state.count p.state.items
+  pub unwritten : q.out.now ≡ p.out.now
+  pub same : Same p q
 
-pub passing_start : (s : Input) (from : ℕ) → Passing s from from 0 0
-passing_start s from = record { fuel = size s; total = refl; flags = refl; ends = refl; small = omega arith; few = omega arith }
+pub passing_start : {p : Parser} → Passing p p (record { external = false; nodebug = false })
+passing_start {p = p} = record { fuel = size (read_by p); total = refl; flags = refl; ends = refl; counts = refl; unwritten = refl; same = unmoved }
 
-passing_by : (s : Input) (from i e n e' n' f : ℕ) → f + i ≡ size s + from → modifier_flags s (size s) 0 0 from ≡ modifier_flags s f e n i → modifiers_end s (size s) from ≡ modifiers_end s f i → i < size s → Turned s e n i true e' n' → Passing s from (i + 1) e' n'
-passing_by s from i e n e' n' zero a b c h t = absurd (omega arith)
-passing_by s from i e n e' n' (suc f) a b c h t =
-    record { fuel = f; total = omega arith; flags = b ∙ t.flags f; ends = c ∙ t.ends f; small = t.small; few = t.few }
+-- what a turn tells is told of the tokens that were there at first
+turned_from : (a b : Source) (m : Modifiers) (i : ℕ) (r : Option Modifiers) → b ≡ a → TurnedTo (seen b) m i r → TurnedTo (seen a) m i r
+turned_from a b m i r e t = subst (λ (x : Source). TurnedTo (seen x) m i r) e t
 
-pub passing_on : (s : Input) (from i e n : ℕ) (m : ℕ × ℕ) → Passing s from i e n → TurnedTo s e n i (Some m) → (j : ℕ) → j ≡ i + 1 → Passing s from j m.0 m.1
+pub turned_there : (p : Parser) (m m' : Modifiers) → TurnedTo (read_by p) m p.state.next (Some m') → p.state.next < size (read_by p)
 unfolding TurnedTo
-passing_on s from i e n m w t j f = rw f (passing_by s from i e n m.0 m.1 w.fuel w.total w.flags w.ends t.1 t.0)
+turned_there p m m' t = t.1
 
-pub turned_there : (s : Input) (e n i : ℕ) (m : ℕ × ℕ) → TurnedTo s e n i (Some m) → i < size s
+pub passing_there : {p q : Parser} {m : Modifiers} (m' : Modifiers) → Passing p q m → TurnedTo (read_by q) m q.state.next (Some m') → q.state.next < size (read_by p)
+passing_there {p = p} {q = q} {m = m} m' w t = subst (λ (x : Source). q.state.next < size (seen x)) w.same.source (turned_there q m m' t)
+
+pub passing_on : {p q q' : Parser} {m m' : Modifiers} → Passing p q m → TurnedTo (read_by q) m q.state.next (Some m') → q'.state ≡ state (q.state.next + 1) q.state.count q.state.items → q'.out.now ≡ q.out.now → Same q q' → Passing p q' m'
 unfolding TurnedTo
-turned_there s e n i m t = t.1
+passing_on {p = p} {q = q} {q' = q'} {m = m} {m' = m'} w t e o z = go w.fuel w.total w.flags w.ends (turned_from p.source q.source m q.state.next (Some m') w.same.source t)
+  where
+    go : (f : ℕ) → f + q.state.next ≡ size (read_by p) + p.state.next → modifier_flags (read_by p) (size (read_by p)) 0 0 p.state.next ≡ modifier_flags (read_by p) f (external_of m) (nodebug_of m) q.state.next → modifiers_end (read_by p) (size (read_by p)) p.state.next ≡ modifiers_end (read_by p) f q.state.next → Turned (read_by p) m q.state.next true m' × (q.state.next < size (read_by p)) → Passing p q' m'
+    go zero a b c h = absurd (omega (arith, a, h.1))
+    go (suc f) a b c h =
+        let n : q'.state.next ≡ q.state.next + 1 = ap (λ (x : State). x.next) e in
+        record {
+          fuel = f;
+          total = omega (arith, a, n);
+          flags = b ∙ h.0.flags f ∙ ap (modifier_flags (read_by p) f (external_of m') (nodebug_of m')) (sym n);
+          ends = c ∙ h.0.ends f ∙ ap (modifiers_end (read_by p) f) (sym n);
+          counts = e ∙ ap (λ (x : State). state (q.state.next + 1) x.count x.items) w.counts ∙ ap (λ (x : ℕ). state x p.state.count p.state.items) (sym n);
+          unwritten = o ∙ w.unwritten;
+          same = same_then w.same z;
+        }
 
-stop_by : (s : Input) (from i e n f : ℕ) → from < 8589934592 → size s ≤ 16385 → f + i ≡ size s + from → modifier_flags s (size s) 0 0 from ≡ modifier_flags s f e n i → modifiers_end s (size s) from ≡ modifiers_end s f i → Turned s e n i false e n → ModifiedFrom s from (e + n) i
-stop_by s from i e n zero x y a b c t = record { flags = sym (b ∙ flags-zero s e n i); ends = sym (c ∙ ends-zero s i); near = omega arith }
-stop_by s from i e n (suc f) x y a b c t = record { flags = sym (b ∙ t.flags f); ends = sym (c ∙ t.ends f); near = omega arith }
-
-pub passing_stop : (s : Input) (from i e n : ℕ) → from < 8589934592 → size s ≤ 16385 → Passing s from i e n → TurnedTo s e n i None → ModifiedFrom s from (e + n) i
+pub passing_stop : {p q : Parser} {m : Modifiers} {x : ℕ} → Passing p q m → TurnedTo (read_by q) m q.state.next None → x ≡ flags_of m → Modified p q x
 unfolding TurnedTo
-passing_stop s from i e n x y w t = stop_by s from i e n w.fuel x y w.total w.flags w.ends t
+passing_stop {p = p} {q = q} {m = m} {x = x} w t e = go w.fuel w.total w.flags w.ends (turned_from p.source q.source m q.state.next None w.same.source t)
+  where
+    finish : modifier_flags (read_by p) (size (read_by p)) 0 0 p.state.next ≡ flags_of m → modifiers_end (read_by p) (size (read_by p)) p.state.next ≡ q.state.next → Modified p q x
+    finish b c =
+        let r = end-reach (read_by p) (size (read_by p)) p.state.next in
+        let s : q.state ≡ state (modifiers_end (read_by p) (size (read_by p)) p.state.next) p.state.count p.state.items = w.counts ∙ ap (λ (y : ℕ). state y p.state.count p.state.items) (sym c) in
+        record {
+          flags = e ∙ sym b;
+          ends = s;
+          unwritten = w.unwritten;
+          same = w.same;
+          within = rw s (record { on = omega (arith, r.on); inside = r.inside; room = omega (arith, r.on); kids = omega (arith, r.on) });
+        }
 
--- ---- passed over
+    go : (f : ℕ) → f + q.state.next ≡ size (read_by p) + p.state.next → modifier_flags (read_by p) (size (read_by p)) 0 0 p.state.next ≡ modifier_flags (read_by p) f (external_of m) (nodebug_of m) q.state.next → modifiers_end (read_by p) (size (read_by p)) p.state.next ≡ modifiers_end (read_by p) f q.state.next → Turned (read_by p) m q.state.next false m → Modified p q x
+    go zero a b c h = finish (b ∙ flags-zero (read_by p) (external_of m) (nodebug_of m) q.state.next) (c ∙ ends-zero (read_by p) q.state.next)
+    go (suc f) a b c h = finish (b ∙ h.flags f) (c ∙ h.ends f)
 
-module _ (s : Input) (name : State) (next : ℕ) (e : next ≡ modifiers_end s (size s) name.next) (t : Token) (r : Bool) (a : t ≡ peek s next) (b : r ≡ is_symbol t) where
-  pub passed_wrong : (u : Token) (j : ℕ) → r ≡ true → u ≡ peek s (next + 1) → j ≡ next + 1 → Moved (parse_modifiers s) name (Err (record { why = TypeModifier; place = u.pos; taken = j }))
-  unfolding parse_modifiers Met
-  passed_wrong u j c d f = record { same = λ l. record { met = rw (← e, ← a, ← b, c, f) (ap (λ (x : Token). refusal 18 x.pos (next + 1)) d) } }
+-- ---- behind them
 
-  pub passed_on : r ≡ false → Moved (parse_modifiers s) name (Ok (state next name.count name.items))
-  unfolding parse_modifiers
-  passed_on c = record { same = λ l. record { met = rw (← e, ← a, ← b, c) (begun next name.count name.items l) } }
+pub symbol_behind : {p : Parser} (t : Token) (r : Bool) (x j : ℕ) → t ≡ peek (read_by p) p.state.next → r ≡ is_symbol t → r ≡ true → x ≡ pos_at (read_by p) (p.state.next + 1) → j ≡ p.state.next + 1 → Read no_modifier p p (Err (record { why = TypeModifier; place = x; taken = j }))
+unfolding no_modifier Met
+symbol_behind {p = p} t r x j a b c d e = refused_here (record { same = λ l. record { met = rw (← a, ← b, c, d, e) refl } })
+
+pub none_behind : {p : Parser} {u : Unit {0}} (t : Token) (r : Bool) → t ≡ peek (read_by p) p.state.next → r ≡ is_symbol t → r ≡ false → Read no_modifier p p (Ok u)
+unfolding no_modifier
+none_behind {p = p} t r a b c = moved unmoved refl refl (record { same = λ l. record { met = rw (← a, ← b, c) (begun p.state.next p.state.count p.state.items l) } })
+
+-- the modifiers, and what may stand behind them
+pub modifiers_then : {p q : Parser} {x : ℕ} {r : Result (Unit {0}) Stop} → Modified p q x → Read no_modifier q q r → Read parse_modifiers p q r
+unfolding parse_modifiers no_modifier
+modifiers_then {p = p} {q = q} {x = x} {r = r} m n =
+    record {
+      read = record { met = rw (← m.unwritten) (here n.read.met) };
+      same = m.same;
+    }
+  where
+    here : Met (no_modifier (read_by q) q.state.next) q.state.count q.state.items q.out.now q.out.now (came_to r q.state) → Met (no_modifier (read_by p) (modifiers_end (read_by p) (size (read_by p)) p.state.next)) p.state.count p.state.items q.out.now q.out.now (came_to r q.state)
+    here k =
+        subst (λ (y : State). Met (no_modifier (read_by p) y.next) y.count y.items q.out.now q.out.now (came_to r q.state)) m.ends
+        (subst (λ (y : Source). Met (no_modifier (seen y) q.state.next) q.state.count q.state.items q.out.now q.out.now (came_to r q.state)) m.same.source k)

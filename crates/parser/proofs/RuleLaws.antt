@@ -18,10 +18,13 @@ use Rattle.tokens.specs.Token.{token_at, is_symbol, is_int, is_refused}
 use Rattle.tokens.specs.Input.{Input, input, peek, pos_at, size}
 use Rattle.steps.specs.Outcome.{accept, refuse, refusal, ◌⊳◌, nothing, refuse_after, if_second, many, name_by, refused_as}
 use Rattle.std.specs.Prelude.{Result, Ok, Err}
+use Rattle.steps.specs.declared.Parser.{Parser}
+use Rattle.steps.specs.declared.Source.{Source}
 use Rattle.steps.specs.declared.State.{State}
 use Rattle.steps.specs.declared.Stop.{Stop}
 use Rattle.steps.specs.Sizes.{Sized, Bounded}
-use Rattle.steps.specs.Met.{state, Met, Chained, Leafed, inside}
+use Rattle.steps.specs.Met.{seen, state, Met, Chained, Leafed}
+use Rattle.steps.specs.Read.{read_by, came_to, Read, Begun}
 use Rattle.records.specs.declared.Ground.TheVariants.{Priority}
 use Rattle.steps.proofs.MetLaws.{begun, leaf_met}
 use Rattle.steps.proofs.SizeLaws.{Steady, steady, sized-accept, sized-refuse, sized-choose, then_bounded, flagged-bounded, next-bounded, second-bounded, after-bounded, nothing-bounded, other-bounded, met_there, int_kinded}
@@ -130,7 +133,7 @@ module _ (s : Input) where
 
 -- ---- the rule
 
-pub parts_at : (s : Input) (x : ℕ) (p : State) {q₀ : State} {r : Result State Stop} {l l₁ : List ℕ} → x ≡ pos_at s p.next → q₀ ≡ inside p → Chained (rule_parts s x) q₀ l l₁ r → Chained (λ i. rule_parts s (pos_at s i) i) q₀ l l₁ r
-parts_at s x p {q₀ = q₀} {r = r} {l = l} {l₁ = l₁} e a m =
-    let here : x ≡ pos_at s q₀.next = e ∙ ap (λ (y : State). pos_at s y.next) (sym a) in
-    record { met = subst (λ (y : ℕ). Met (rule_parts s y q₀.next) q₀.count q₀.items l l₁ r) here m.met }
+pub parts_at : (x : ℕ) {p p₁ p₂ : Parser} {r : Result (Unit {0}) Stop} → x ≡ pos_at (read_by p) p.state.next → Begun p p₁ → Read (λ s. rule_parts s x) p₁ p₂ r → Read (λ s i. rule_parts s (pos_at s i) i) p₁ p₂ r
+parts_at x {p = p} {p₁ = p₁} {p₂ = p₂} {r = r} e b m =
+    let here : x ≡ pos_at (read_by p₁) p₁.state.next = e ∙ ap (λ (y : State). pos_at (read_by p) y.next) (sym b.inside) ∙ ap (λ (y : Source). pos_at (seen y) p₁.state.next) (sym b.same.source) in
+    record { read = record { met = subst (λ (y : ℕ). Met (rule_parts (read_by p₁) y p₁.state.next) p₁.state.count p₁.state.items p₁.out.now p₂.out.now (came_to r p₂.state)) here m.read.met }; same = m.same }

@@ -1,7 +1,7 @@
 -- How far types read, and rows whose items know their place. Assumes nothing.
 use Prim.Native.Nat.{ℕ, ◌+◌, ◌≤◌}
 use native.Mathlib.Omega.{arith}
-use mathlib.Core.Path.{◌≡◌, refl, ap, subst}
+use mathlib.Core.Path.{◌≡◌, refl, ap, subst, ◌∙◌}
 use mathlib.Core.List.{List}
 use mathlib.Core.Bool.{Bool}
 use Rattle.trees.specs.Tree.{head}
@@ -12,11 +12,15 @@ use Rattle.tokens.specs.Input.{Input, input, peek, pos_at, size}
 use Rattle.steps.specs.Keywords.{word_primitive, word_enum, word_struct}
 use Rattle.steps.specs.Outcome.{Reader, ◌⊳◌, parent, bare, nothing, refuse_after, if_next, if_second, many_at, row, expect-lparen, expect-rparen, expect-word, parse_ident}
 use Rattle.std.specs.Prelude.{Result, Ok, Err}
+use Rattle.steps.specs.declared.Parser.{Parser}
+use Rattle.steps.specs.declared.Source.{Source}
 use Rattle.steps.specs.declared.State.{State}
 use Rattle.steps.specs.declared.Stop.{Stop}
 use Rattle.steps.specs.Sizes.{Sized, BoundedAt, Bounded}
-use Rattle.steps.specs.Met.{Chained, Closed, inside}
+use Rattle.steps.specs.Met.{seen}
+use Rattle.steps.specs.Read.{read_by, came_to, Read, ReadAt, Begun, ClosedBy}
 use Rattle.steps.proofs.MetLaws.{node_over, node_none}
+use Rattle.steps.proofs.ReadLaws.{same_then, children}
 use Rattle.steps.proofs.SizeLaws.{Steady, Item, steady, item, sized-node, sized_less, then_bounded, parent-bounded, flagged-bounded, bare-bounded, next-bounded, second-bounded, nothing-bounded, after-bounded, lparen-bounded, rparen-bounded, word-bounded, ident-bounded}
 use Rattle.steps.proofs.RowLaws.{row_steady, row-bounded}
 use Rattle.parser.specs.Types.{parse_struct_field, parse_struct_fields, parse_tuple_field, parse_tuple_fields, parse_fields, parse_type_variant, parse_typevalue, modifier_flags, parse_modifiers, parse_type}
@@ -125,17 +129,27 @@ module _ (s : Input) where
 
 -- ---- promises
 
-module _ (s : Input) (p q₀ : State) {l l₁ : List ℕ} (e : q₀ ≡ inside p) where
-  -- a row whose items know their place, from its first item on
-  pub tuple_row : (stop : ℕ → Bool) (f : ℕ → Reader) {r : Result State Stop} → Chained (many_at (size s) stop f q₀.items) q₀ l l₁ r → Chained (many_at (size s) stop f 0) q₀ l l₁ r
-  tuple_row stop f {r = r} m = subst (λ (k : ℕ). Chained (many_at (size s) stop f k) q₀ l l₁ r) (ap (λ (x : State). x.items) e) m
+-- a row whose items know their place, from its first item on
+pub tuple_row : (stop : Input → ℕ → Bool) (f : Input → ℕ → Reader) {p p₁ p₂ : Parser} {r : Result (Unit {0}) Stop} → Begun p p₁ → ReadAt (λ s. many_at (size s) (stop s) (f s)) p₁ p₂ r → Read (λ s. many_at (size s) (stop s) (f s) 0) p₁ p₂ r
+tuple_row stop f {p₁ = p₁} {p₂ = p₂} {r = r} b m = subst (λ (k : ℕ). Read (λ s. many_at (size s) (stop s) (f s) k) p₁ p₂ r) (ap (λ (x : State). x.items) b.inside) m
 
-  pub tuple_field_read : {x : ℕ} {q r : State} {l₂ : List ℕ} → x ≡ pos_at s p.next → Chained (parse_ident s) q₀ l l₁ (Ok q) → Closed (head kind_tuple_field 0 x p.items 0) p q l₁ l₂ r → Chained (parse_tuple_field s p.items) p l l₂ (Ok r)
-  unfolding parse_tuple_field
-  tuple_field_read {x = x} {q = q} {r = r} {l₂ = l₂} a m c =
-      let z : Closed (head kind_tuple_field 0 (pos_at s p.next) p.items 0) p q l₁ l₂ r = subst (λ (y : ℕ). Closed (head kind_tuple_field 0 y p.items 0) p q l₁ l₂ r) a c in
-      record { met = node_over (parse_ident s) (head kind_tuple_field 0 (pos_at s p.next) p.items 0) p q₀ l l₁ l₂ q r z e m }
+module _ {p p₁ p₂ : Parser} (b : Begun p p₁) where
+  pub tuple_field_read : {x : ℕ} {n : State} {p₃ : Parser} {u v : Unit {0}} → n ≡ p.state → x ≡ pos_at (read_by p₂) n.next → Read parse_ident p₁ p₂ (Ok u) → ClosedBy (head kind_tuple_field 0 x n.items 0) n p₂ p₃ → ReadAt parse_tuple_field p p₃ (Ok v)
+  unfolding parse_tuple_field came_to
+  tuple_field_read {x = x} {n = n} {p₃ = p₃} {u = u} z a m c =
+      let y : x ≡ pos_at (read_by p) p.state.next = a ∙ ap (λ (k : Source). pos_at (seen k) n.next) (m.same.source ∙ b.same.source) ∙ ap (λ (k : State). pos_at (read_by p) k.next) z in
+      let d : ClosedBy (head kind_tuple_field 0 (pos_at (read_by p) p.state.next) p.state.items 0) p.state p₂ p₃ =
+          subst (λ (k : ℕ). ClosedBy (head kind_tuple_field 0 k p.state.items 0) p.state p₂ p₃) y (subst (λ (k : State). ClosedBy (head kind_tuple_field 0 x k.items 0) k p₂ p₃) z c)
+      in
+      record {
+        read = record { met = node_over (parse_ident (read_by p)) (head kind_tuple_field 0 (pos_at (read_by p) p.state.next) p.state.items 0) p.state p₁.state p.out.now p₂.out.now p₃.out.now p₂.state p₃.state d.closed b.inside (children parse_ident p p₁ p₂ (Ok u) b m) };
+        same = same_then (same_then b.same m.same) c.same;
+      }
 
-  pub tuple_field_stopped : {d : Stop} → Chained (parse_ident s) q₀ l l₁ (Err d) → Chained (parse_tuple_field s p.items) p l l₁ (Err d)
-  unfolding parse_tuple_field
-  tuple_field_stopped {d = d} m = record { met = node_none (parse_ident s) (head kind_tuple_field 0 (pos_at s p.next) p.items 0) p q₀ l l₁ d e m }
+  pub tuple_field_stopped : {d : Stop} → Read parse_ident p₁ p₂ (Err d) → ReadAt parse_tuple_field p p₂ (Err d)
+  unfolding parse_tuple_field came_to
+  tuple_field_stopped {d = d} m =
+      record {
+        read = record { met = node_none (parse_ident (read_by p)) (head kind_tuple_field 0 (pos_at (read_by p) p.state.next) p.state.items 0) p.state p₁.state p.out.now p₂.out.now d b.inside (children parse_ident p p₁ p₂ (Err d) b m) };
+        same = same_then b.same m.same;
+      }

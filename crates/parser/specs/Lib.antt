@@ -1,5 +1,4 @@
 pub mod Types
 pub mod Modified
 pub mod Defs
-pub mod DeclModified
 pub mod Reading

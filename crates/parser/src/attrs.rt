@@ -4,95 +4,80 @@ ghost use Rattle.trees.specs.Ast.{kind_attr_kind_tag};
 ghost use Rattle.trees.specs.KindNumber.{kind_number};
 ghost use Rattle.tokens.specs.Token.{is_rparen};
 ghost use Rattle.tokens.specs.Input.{peek};
-ghost use Rattle.steps.specs.Keywords.{word_veri, word_tag};
-ghost use Rattle.steps.specs.Outcome.{◌⊳◌, bare, row, expect-lparen, expect-rparen, expect-word, parse_ident};
-ghost use Rattle.steps.specs.Met.{seen, Ready, Within, Chained};
+ghost use Rattle.steps.specs.Outcome.{bare, row, expect-word, parse_ident};
+ghost use Rattle.steps.specs.Read.{Read, Begins, Went};
 ghost use Rattle.parser.specs.Defs.{parse_attr_kind_veri, parse_attr_kind, parse_attr};
 
 use records::Ground;
-use steps::names::parse_ident;
-use steps::nodes::{close, close_at};
-use steps::parts::{Item, at_rparen, parse_row};
-use steps::{
-    Source, State, Stop, eat, eaten, expect_lparen, expect_rparen, expect_word, inside, next_token,
-    refuse_after, second_token,
-};
+use steps::parts::{Item, Part};
+use steps::{Parser, Stop};
 use tokens::TokenKind;
-use trees::{Head, Kind};
+use trees::Kind;
 
 // A record without position and children, of the one word w.
-fn word_kind(s: &Source, out: &mut [u8], p: State, kind: Kind, w: &[u8]) -> Result<State, Stop>
-    requires { Ready 4 (seen s.now) p }
-    ensures reads { Chained (bare (kind_number kind) (expect-word (seen s.now) w.now)) p out.old out.new result }
-    ensures within { IfOk result (Within 1 0 0 (seen s.now) p) }
+fn word_kind(p: &mut Parser, kind: Kind, w: &[u8]) -> Result<(), Stop>
+    requires { Begins 4 p.old }
+    ensures reads { Read (λ s. bare (kind_number kind) (expect-word s w.now)) p.old p.new result }
+    ensures within { IfOk result (λ _. Went 1 0 0 p.old p.new) }
 {
-    let q = expect_word(s, inside(p), w)?;
-    Ok(close(out, p, Head::plain(kind, 0, 0), q))
+    let node = p.begin();
+    p.expect_word(w)?;
+    Ok(p.close_bare(node, kind))
 }
 
-fn parse_attr_kind_veri(s: &Source, out: &mut [u8], p: State) -> Result<State, Stop>
-    requires { Ready 4 (seen s.now) p }
-    ensures reads { Chained (parse_attr_kind_veri (seen s.now)) p out.old out.new result }
-    ensures within { IfOk result (Within 1 0 0 (seen s.now) p) }
+fn parse_attr_kind_veri(p: &mut Parser) -> Result<(), Stop>
+    requires { Begins 4 p.old }
+    ensures reads { Read parse_attr_kind_veri p.old p.new result }
+    ensures within { IfOk result (λ _. Went 1 0 0 p.old p.new) }
 {
-    let t = next_token(s, p);
-    if t.is_word(s.text, b"chain") {
-        return word_kind(s, out, p, Kind::AttrKindChain, b"chain");
+    let t = p.next_token();
+    if t.is_word(p.source.text, b"chain") {
+        return word_kind(p, Kind::AttrKindChain, b"chain");
     }
-    if t.is_word(s.text, b"priority") {
-        return word_kind(s, out, p, Kind::AttrKindPriority, b"priority");
+    if t.is_word(p.source.text, b"priority") {
+        return word_kind(p, Kind::AttrKindPriority, b"priority");
     }
-    refuse_after(s, p, TokenKind::Symbol, Ground::VerificationAttribute)
+    p.refuse_after(TokenKind::Symbol, Ground::VerificationAttribute)
 }
 
-// `(veri ..)`
-fn attr_veri(s: &Source, out: &mut [u8], p: State) -> Result<State, Stop>
-    requires { Ready 4 (seen s.now) p }
-    ensures reads { Chained (expect-lparen (seen s.now) ⊳ expect-word (seen s.now) word_veri ⊳ parse_attr_kind_veri (seen s.now) ⊳ expect-rparen (seen s.now)) p out.old out.new result }
-    ensures within { IfOk result (Within 1 0 0 (seen s.now) p) }
-{
-    let open = expect_lparen(s, p)?;
-    let word = expect_word(s, open, b"veri")?;
-    let q = parse_attr_kind_veri(s, out, word)?;
-    expect_rparen(s, q)
-}
+// What stands after `veri`.
+struct Veri;
 
-// A tag: a record without position over its name.
-fn tag_name(s: &Source, out: &mut [u8], p: State) -> Result<State, Stop>
-    requires { Ready 4 (seen s.now) p }
-    ensures reads { Chained (bare kind_attr_kind_tag (parse_ident (seen s.now))) p out.old out.new result }
-    ensures within { IfOk result (Within 1 0 0 (seen s.now) p) }
-{
-    let q = parse_ident(s, out, inside(p))?;
-    Ok(close(out, p, Head::plain(Kind::AttrKindTag, 0, 0), q))
-}
+impl Part for Veri {
+    ghost reader = { parse_attr_kind_veri };
 
-// `(tag name)`
-fn attr_tag(s: &Source, out: &mut [u8], p: State) -> Result<State, Stop>
-    requires { Ready 4 (seen s.now) p }
-    ensures reads { Chained (expect-lparen (seen s.now) ⊳ expect-word (seen s.now) word_tag ⊳ bare kind_attr_kind_tag (parse_ident (seen s.now)) ⊳ expect-rparen (seen s.now)) p out.old out.new result }
-    ensures within { IfOk result (Within 1 0 0 (seen s.now) p) }
-{
-    let open = expect_lparen(s, p)?;
-    let word = expect_word(s, open, b"tag")?;
-    let q = tag_name(s, out, word)?;
-    expect_rparen(s, q)
-}
-
-fn parse_attr_kind(s: &Source, out: &mut [u8], p: State) -> Result<State, Stop>
-    requires { Ready 4 (seen s.now) p }
-    ensures reads { Chained (parse_attr_kind (seen s.now)) p out.old out.new result }
-    ensures within { IfOk result (Within 1 0 0 (seen s.now) p) }
-{
-    let u = second_token(s, p);
-    if u.is_word(s.text, b"veri") {
-        return attr_veri(s, out, p);
+    fn parse(p: &mut Parser) -> Result<(), Stop> {
+        parse_attr_kind_veri(p)
     }
-    if u.is_word(s.text, b"tag") {
-        return attr_tag(s, out, p);
+}
+
+// After `tag`: a record without position over its name.
+struct Tag;
+
+impl Part for Tag {
+    ghost reader = { λ s. bare kind_attr_kind_tag (parse_ident s) };
+
+    fn parse(p: &mut Parser) -> Result<(), Stop> {
+        let node = p.begin();
+        p.parse_ident()?;
+        Ok(p.close_bare(node, Kind::AttrKindTag))
     }
-    let open = expect_lparen(s, p)?;
-    refuse_after(s, open, TokenKind::Symbol, Ground::Attribute)
+}
+
+fn parse_attr_kind(p: &mut Parser) -> Result<(), Stop>
+    requires { Begins 4 p.old }
+    ensures reads { Read parse_attr_kind p.old p.new result }
+    ensures within { IfOk result (λ _. Went 1 0 0 p.old p.new) }
+{
+    let u = p.second_token();
+    if u.is_word(p.source.text, b"veri") {
+        return p.parse_worded::<Veri>(b"veri", u);
+    }
+    if u.is_word(p.source.text, b"tag") {
+        return p.parse_worded::<Tag>(b"tag", u);
+    }
+    p.expect_lparen()?;
+    p.refuse_after(TokenKind::Symbol, Ground::Attribute)
 }
 
 // An attribute, in the row after a target.
@@ -103,32 +88,32 @@ impl Item for AttrKinds {
 
     ghost stop = { λ s i. is_rparen (peek s i) };
 
-    fn parse(s: &Source, out: &mut [u8], p: State) -> Result<State, Stop> {
-        parse_attr_kind(s, out, p)
+    fn parse(p: &mut Parser) -> Result<(), Stop> {
+        parse_attr_kind(p)
     }
 
-    fn ends(s: &Source, p: State) -> bool {
-        at_rparen(s, p)
+    fn ends(p: &Parser) -> bool {
+        p.at_rparen()
     }
 }
 
-fn attr_kind_row(s: &Source, out: &mut [u8], p: State) -> Result<State, Stop>
-    requires { Ready 4 (seen s.now) p }
-    ensures reads { Chained (row (seen s.now) (parse_attr_kind (seen s.now))) p out.old out.new result }
-    ensures within { IfOk result (Within 0 0 0 (seen s.now) p) }
+fn attr_kind_row(p: &mut Parser) -> Result<(), Stop>
+    requires { Begins 4 p.old }
+    ensures reads { Read (λ s. row s (parse_attr_kind s)) p.old p.new result }
+    ensures within { IfOk result (λ _. Went 0 0 0 p.old p.new) }
 {
-    parse_row::<AttrKinds>(s, out, p)
+    p.parse_row::<AttrKinds>()
 }
 
 // After `attr`: `rule` or not, the target, the attributes.
-pub fn parse_attr(s: &Source, out: &mut [u8], p: State) -> Result<State, Stop>
-    requires { Ready 4 (seen s.now) p }
-    ensures reads { Chained (parse_attr (seen s.now)) p out.old out.new result }
-    ensures within { IfOk result (Within 1 0 0 (seen s.now) p) }
+pub fn parse_attr(p: &mut Parser) -> Result<(), Stop>
+    requires { Begins 4 p.old }
+    ensures reads { Read parse_attr p.old p.new result }
+    ensures within { IfOk result (λ _. Went 1 0 0 p.old p.new) }
 {
-    let flags = eaten(s, p, b"rule");
-    let word = eat(s, inside(p), b"rule");
-    let target = parse_ident(s, out, word)?;
-    let q = attr_kind_row(s, out, target)?;
-    Ok(close_at(s, out, p, Kind::Attr, flags, q))
+    let node = p.begin();
+    let rule = p.eat(b"rule");
+    p.parse_ident()?;
+    attr_kind_row(p)?;
+    Ok(p.close_at(node, Kind::Attr, u8::from(rule)))
 }

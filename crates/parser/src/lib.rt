@@ -10,7 +10,7 @@ ghost use Rattle.std.specs.Prelude.{◌≡◌, ℕ, ◌+◌, ◌≤◌, ◌<◌,
 ghost use Rattle.trees.specs.Choice.{pick};
 ghost use Rattle.records.specs.Grounds.{number};
 ghost use Rattle.tokens.specs.Input.{size, peek};
-ghost use Rattle.steps.specs.Met.{seen, Ready, Within, Chained, Moved};
+ghost use Rattle.steps.specs.Read.{read_by, Read, Begins, Went};
 ghost use Rattle.parser.specs.Types.{parse_type};
 ghost use Rattle.parser.specs.Defs.{parse_pragma, parse_decl, parse_attr, parse_rule, parse_etor, parse_extern, parse_converter, is_uncovered, other_def, rest_def, parse_def, parse_defs};
 
@@ -18,8 +18,8 @@ use attrs::parse_attr;
 use decls::{parse_converter, parse_decl, parse_etor, parse_extern, parse_pragma};
 use records::Ground;
 use rules::parse_rule;
-use steps::parts::{Item, Part, parse_row, parse_worded};
-use steps::{Source, State, Stop, expect_lparen, refuse_after, second_token};
+use steps::parts::{Item, Part};
+use steps::{Parser, Stop};
 use tokens::{Token, TokenKind};
 use types::parse_type;
 
@@ -29,8 +29,8 @@ struct Pragma;
 impl Part for Pragma {
     ghost reader = { parse_pragma };
 
-    fn parse(s: &Source, _out: &mut [u8], p: State) -> Result<State, Stop> {
-        parse_pragma(s, p)
+    fn parse(p: &mut Parser) -> Result<(), Stop> {
+        parse_pragma(p)
     }
 }
 
@@ -39,8 +39,8 @@ struct TypeDef;
 impl Part for TypeDef {
     ghost reader = { parse_type };
 
-    fn parse(s: &Source, out: &mut [u8], p: State) -> Result<State, Stop> {
-        parse_type(s, out, p)
+    fn parse(p: &mut Parser) -> Result<(), Stop> {
+        parse_type(p)
     }
 }
 
@@ -49,8 +49,8 @@ struct Decl;
 impl Part for Decl {
     ghost reader = { parse_decl };
 
-    fn parse(s: &Source, out: &mut [u8], p: State) -> Result<State, Stop> {
-        parse_decl(s, out, p)
+    fn parse(p: &mut Parser) -> Result<(), Stop> {
+        parse_decl(p)
     }
 }
 
@@ -59,8 +59,8 @@ struct Attr;
 impl Part for Attr {
     ghost reader = { parse_attr };
 
-    fn parse(s: &Source, out: &mut [u8], p: State) -> Result<State, Stop> {
-        parse_attr(s, out, p)
+    fn parse(p: &mut Parser) -> Result<(), Stop> {
+        parse_attr(p)
     }
 }
 
@@ -69,8 +69,8 @@ struct Rule;
 impl Part for Rule {
     ghost reader = { parse_rule };
 
-    fn parse(s: &Source, out: &mut [u8], p: State) -> Result<State, Stop> {
-        parse_rule(s, out, p)
+    fn parse(p: &mut Parser) -> Result<(), Stop> {
+        parse_rule(p)
     }
 }
 
@@ -79,8 +79,8 @@ struct Extractor;
 impl Part for Extractor {
     ghost reader = { parse_etor };
 
-    fn parse(s: &Source, out: &mut [u8], p: State) -> Result<State, Stop> {
-        parse_etor(s, out, p)
+    fn parse(p: &mut Parser) -> Result<(), Stop> {
+        parse_etor(p)
     }
 }
 
@@ -89,8 +89,8 @@ struct Extern;
 impl Part for Extern {
     ghost reader = { parse_extern };
 
-    fn parse(s: &Source, out: &mut [u8], p: State) -> Result<State, Stop> {
-        parse_extern(s, out, p)
+    fn parse(p: &mut Parser) -> Result<(), Stop> {
+        parse_extern(p)
     }
 }
 
@@ -99,31 +99,22 @@ struct Converter;
 impl Part for Converter {
     ghost reader = { parse_converter };
 
-    fn parse(s: &Source, out: &mut [u8], p: State) -> Result<State, Stop> {
-        parse_converter(s, out, p)
+    fn parse(p: &mut Parser) -> Result<(), Stop> {
+        parse_converter(p)
     }
 }
 
 // Whether a token is a word that is not covered.
+#[tactic(auto, unfolding(crate::specs::Defs::is_uncovered))]
 fn is_uncovered(t: Token, text: &[u8]) -> bool
     ensures { result ≡ is_uncovered text.now t }
 {
-    if t.is_word(text, b"spec") {
-        return true;
-    }
-    if t.is_word(text, b"macro") {
-        return true;
-    }
-    if t.is_word(text, b"state") {
-        return true;
-    }
-    if t.is_word(text, b"model") {
-        return true;
-    }
-    if t.is_word(text, b"form") {
-        return true;
-    }
-    t.is_word(text, b"instantiate")
+    t.is_word(text, b"spec")
+        || t.is_word(text, b"macro")
+        || t.is_word(text, b"state")
+        || t.is_word(text, b"model")
+        || t.is_word(text, b"form")
+        || t.is_word(text, b"instantiate")
 }
 
 // Why a definition with that word is refused, which is none of the covered ones.
@@ -137,58 +128,58 @@ fn unread_ground(u: Token, text: &[u8]) -> Ground
 }
 
 // A definition whose word is none of the covered ones.
-fn other_def(s: &Source, p: State, u: Token) -> Result<State, Stop>
-    requires ready { Ready 4 (seen s.now) p }
-    requires second { u ≡ peek (seen s.now) (p.next + 1) }
-    ensures reads { Moved (other_def (seen s.now)) p result }
-    ensures within { IfOk result (Within 1 0 0 (seen s.now) p) }
+fn other_def(p: &mut Parser, u: Token) -> Result<(), Stop>
+    requires ready { Begins 4 p.old }
+    requires second { u ≡ peek (read_by p.old) (p.old.state.next + 1) }
+    ensures reads { Read other_def p.old p.new result }
+    ensures within { IfOk result (λ _. Went 1 0 0 p.old p.new) }
 {
-    let why = unread_ground(u, s.text);
-    let open = expect_lparen(s, p)?;
-    refuse_after(s, open, TokenKind::Symbol, why)
+    let why = unread_ground(u, p.source.text);
+    p.expect_lparen()?;
+    p.refuse_after(TokenKind::Symbol, why)
 }
 
 // A definition by the word after its `(`: the less frequent words.
-fn parse_def_rest(s: &Source, out: &mut [u8], p: State, u: Token) -> Result<State, Stop>
-    requires ready { Ready 4 (seen s.now) p }
-    requires second { u ≡ peek (seen s.now) (p.next + 1) }
-    ensures reads { Chained (rest_def (seen s.now)) p out.old out.new result }
-    ensures within { IfOk result (Within 1 0 0 (seen s.now) p) }
+fn parse_def_rest(p: &mut Parser, u: Token) -> Result<(), Stop>
+    requires ready { Begins 4 p.old }
+    requires second { u ≡ peek (read_by p.old) (p.old.state.next + 1) }
+    ensures reads { Read rest_def p.old p.new result }
+    ensures within { IfOk result (λ _. Went 1 0 0 p.old p.new) }
 {
-    if u.is_word(s.text, b"rule") {
-        return parse_worded::<Rule>(s, out, p, b"rule", u);
+    if u.is_word(p.source.text, b"rule") {
+        return p.parse_worded::<Rule>(b"rule", u);
     }
-    if u.is_word(s.text, b"extractor") {
-        return parse_worded::<Extractor>(s, out, p, b"extractor", u);
+    if u.is_word(p.source.text, b"extractor") {
+        return p.parse_worded::<Extractor>(b"extractor", u);
     }
-    if u.is_word(s.text, b"extern") {
-        return parse_worded::<Extern>(s, out, p, b"extern", u);
+    if u.is_word(p.source.text, b"extern") {
+        return p.parse_worded::<Extern>(b"extern", u);
     }
-    if u.is_word(s.text, b"convert") {
-        return parse_worded::<Converter>(s, out, p, b"convert", u);
+    if u.is_word(p.source.text, b"convert") {
+        return p.parse_worded::<Converter>(b"convert", u);
     }
-    other_def(s, p, u)
+    other_def(p, u)
 }
 
-fn parse_def(s: &Source, out: &mut [u8], p: State) -> Result<State, Stop>
-    requires { Ready 4 (seen s.now) p }
-    ensures reads { Chained (parse_def (seen s.now)) p out.old out.new result }
-    ensures within { IfOk result (Within 1 0 0 (seen s.now) p) }
+fn parse_def(p: &mut Parser) -> Result<(), Stop>
+    requires { Begins 4 p.old }
+    ensures reads { Read parse_def p.old p.new result }
+    ensures within { IfOk result (λ _. Went 1 0 0 p.old p.new) }
 {
-    let u = second_token(s, p);
-    if u.is_word(s.text, b"pragma") {
-        return parse_worded::<Pragma>(s, out, p, b"pragma", u);
+    let u = p.second_token();
+    if u.is_word(p.source.text, b"pragma") {
+        return p.parse_worded::<Pragma>(b"pragma", u);
     }
-    if u.is_word(s.text, b"type") {
-        return parse_worded::<TypeDef>(s, out, p, b"type", u);
+    if u.is_word(p.source.text, b"type") {
+        return p.parse_worded::<TypeDef>(b"type", u);
     }
-    if u.is_word(s.text, b"decl") {
-        return parse_worded::<Decl>(s, out, p, b"decl", u);
+    if u.is_word(p.source.text, b"decl") {
+        return p.parse_worded::<Decl>(b"decl", u);
     }
-    if u.is_word(s.text, b"attr") {
-        return parse_worded::<Attr>(s, out, p, b"attr", u);
+    if u.is_word(p.source.text, b"attr") {
+        return p.parse_worded::<Attr>(b"attr", u);
     }
-    parse_def_rest(s, out, p, u)
+    parse_def_rest(p, u)
 }
 
 // A definition, in the row that ends with the tokens.
@@ -199,20 +190,20 @@ impl Item for Def {
 
     ghost stop = { λ s i. leb (size s) i };
 
-    fn parse(s: &Source, out: &mut [u8], p: State) -> Result<State, Stop> {
-        parse_def(s, out, p)
+    fn parse(p: &mut Parser) -> Result<(), Stop> {
+        parse_def(p)
     }
 
-    fn ends(s: &Source, p: State) -> bool {
-        s.tokens.len() / Token::WIDTH <= p.next
+    fn ends(p: &Parser) -> bool {
+        p.source.tokens.len() / Token::WIDTH <= p.state.next
     }
 }
 
 // All definitions, to the last token.
-pub fn parse_defs(s: &Source, out: &mut [u8], p: State) -> Result<State, Stop>
-    requires { Ready 4 (seen s.now) p }
-    ensures reads { Chained (parse_defs (seen s.now)) p out.old out.new result }
-    ensures within { IfOk result (Within 0 0 0 (seen s.now) p) }
+pub fn parse_defs(p: &mut Parser) -> Result<(), Stop>
+    requires { Begins 4 p.old }
+    ensures reads { Read parse_defs p.old p.new result }
+    ensures within { IfOk result (λ _. Went 0 0 0 p.old p.new) }
 {
-    parse_row::<Def>(s, out, p)
+    p.parse_row::<Def>()
 }

@@ -1,32 +1,30 @@
 // Rules: parse_rule.
 ghost use Rattle.std.specs.Prelude.{◌≡◌, ℕ, ◌+◌, ◌≤◌, ◌<◌, IfOk};
 ghost use Rattle.steps.specs.Outcome.{◌⊳◌};
-ghost use Rattle.steps.specs.Met.{seen, Ready, Within, Chained};
+ghost use Rattle.steps.specs.Read.{read_by, Read, Begins, Went};
 ghost use Rattle.parser.specs.Defs.{rule_name, is_i64, rule_priority, rule_flags, rule_parts, parse_rule};
 
 use exprs::iflets::{parse_iflet_or_expr, parse_iflets};
 use patterns::parse_pattern;
 use reader::after;
 use records::Ground;
-use steps::names::parse_name_or;
-use steps::nodes::{close_at, put_leaf};
-use steps::{Source, State, Stop, inside, next_pos, next_token, refuse_after, second_token};
+use steps::{Parser, Stop};
 use tokens::TokenKind;
 use trees::{Head, Kind};
 
 // The first symbol after `rule` is its name, and a refusal of the token behind it is one of the name.
-fn rule_name(s: &Source, out: &mut [u8], p: State) -> Result<State, Stop>
-    requires { Ready 4 (seen s.now) p }
-    ensures reads { Chained (rule_name (seen s.now)) p out.old out.new result }
-    ensures within { IfOk result (Within 0 0 0 (seen s.now) p) }
+fn rule_name(p: &mut Parser) -> Result<(), Stop>
+    requires { Begins 4 p.old }
+    ensures reads { Read rule_name p.old p.new result }
+    ensures within { IfOk result (λ _. Went 0 0 0 p.old p.new) }
 {
-    if next_token(s, p).is_symbol() {
-        if second_token(s, p).is_refused() {
-            return refuse_after(s, p, TokenKind::Symbol, Ground::RuleName);
+    if p.next_token().is_symbol() {
+        if p.second_token().is_refused() {
+            return p.refuse_after(TokenKind::Symbol, Ground::RuleName);
         }
-        return parse_name_or(s, out, p, Ground::RuleName);
+        return p.parse_name_or(Ground::RuleName);
     }
-    Ok(p)
+    Ok(())
 }
 
 fn is_i64(upper: u64, lower: u64) -> bool
@@ -39,73 +37,71 @@ fn is_i64(upper: u64, lower: u64) -> bool
 }
 
 // The next integer is the rule's priority; a refusal stands at `place`.
-fn rule_priority(s: &Source, out: &mut [u8], p: State, place: u32) -> Result<State, Stop>
-    requires { Ready 4 (seen s.now) p }
-    ensures reads { Chained (rule_priority (seen s.now) place) p out.old out.new result }
-    ensures within { IfOk result (Within 0 0 0 (seen s.now) p) }
+fn rule_priority(p: &mut Parser, place: u32) -> Result<(), Stop>
+    requires { Begins 4 p.old }
+    ensures reads { Read (λ s. rule_priority s place) p.old p.new result }
+    ensures within { IfOk result (λ _. Went 0 0 0 p.old p.new) }
 {
-    let t = next_token(s, p);
+    let t = p.next_token();
     if !t.is_int() {
-        return Ok(p);
+        return Ok(());
     }
     if !is_i64(t.word1, t.word2) {
         return Err(Stop {
             why: Ground::Priority,
             place,
-            taken: after(s.tokens, p.next),
+            taken: after(p.source.tokens, p.state.next),
         });
     }
-    let h = Head {
-        kind: Kind::Priority as u8,
-        flags: 0,
-        pos: 0,
+    Ok(p.put_leaf(Head {
         word1: t.word2,
-        word2: 0,
-    };
-    Ok(put_leaf(s, out, p, h))
+        ..Head::plain(Kind::Priority, 0, 0)
+    }))
 }
 
 // 1 named, 2 has priority.
-fn rule_flags(s: &Source, p: State) -> u8
-    requires { p.next < 4294967296 }
-    ensures { result ≡ rule_flags (seen s.now) p.next }
+fn rule_flags(p: &Parser) -> u8
+    requires { p.now.state.next < 4294967296 }
+    ensures { result ≡ rule_flags (read_by p.now) p.now.state.next }
 {
-    let t = next_token(s, p);
+    let t = p.next_token();
     if t.is_symbol() {
-        return 1 + 2 * (second_token(s, p).is_int() as u8);
+        return 1 + 2 * u8::from(p.second_token().is_int());
     }
-    2 * (t.is_int() as u8)
+    2 * u8::from(t.is_int())
 }
 
-// The name, the priority and the pattern.
-fn rule_head(s: &Source, out: &mut [u8], p: State, place: u32) -> Result<State, Stop>
-    requires { Ready 4 (seen s.now) p }
-    ensures reads { Chained (rule_name (seen s.now) ⊳ rule_priority (seen s.now) place) p out.old out.new result }
-    ensures within { IfOk result (Within 0 0 0 (seen s.now) p) }
+// The name and the priority.
+fn rule_head(p: &mut Parser, place: u32) -> Result<(), Stop>
+    requires { Begins 4 p.old }
+    ensures reads { Read (λ s. rule_name s ⊳ rule_priority s place) p.old p.new result }
+    ensures within { IfOk result (λ _. Went 0 0 0 p.old p.new) }
 {
-    let name = rule_name(s, out, p)?;
-    rule_priority(s, out, name, place)
+    rule_name(p)?;
+    rule_priority(p, place)
 }
 
 // What a rule is made of; 24 stands at `place`.
-fn rule_parts(s: &Source, out: &mut [u8], p: State, place: u32) -> Result<State, Stop>
-    requires { Ready 4 (seen s.now) p }
-    ensures reads { Chained (rule_parts (seen s.now) place) p out.old out.new result }
-    ensures within { IfOk result (Within 1 1 0 (seen s.now) p) }
+fn rule_parts(p: &mut Parser, place: u32) -> Result<(), Stop>
+    requires { Begins 4 p.old }
+    ensures reads { Read (λ s. rule_parts s place) p.old p.new result }
+    ensures within { IfOk result (λ _. Went 1 1 0 p.old p.new) }
 {
-    let head = rule_head(s, out, p, place)?;
-    let pattern = parse_pattern(s, out, head, 64)?;
-    let iflets = parse_iflets(s, out, pattern)?;
-    parse_iflet_or_expr(s, out, iflets)
+    rule_head(p, place)?;
+    parse_pattern(p, 64)?;
+    parse_iflets(p)?;
+    parse_iflet_or_expr(p)
 }
 
 // After `rule`: name, priority, pattern, if-lets, expression.
-pub fn parse_rule(s: &Source, out: &mut [u8], p: State) -> Result<State, Stop>
-    requires { Ready 2 (seen s.now) p }
-    ensures reads { Chained (parse_rule (seen s.now)) p out.old out.new result }
-    ensures within { IfOk result (Within 1 0 0 (seen s.now) p) }
+pub fn parse_rule(p: &mut Parser) -> Result<(), Stop>
+    requires { Begins 2 p.old }
+    ensures reads { Read parse_rule p.old p.new result }
+    ensures within { IfOk result (λ _. Went 1 0 0 p.old p.new) }
 {
-    let flags = rule_flags(s, p);
-    let q = rule_parts(s, out, inside(p), next_pos(s, p))?;
-    Ok(close_at(s, out, p, Kind::Rule, flags, q))
+    let flags = rule_flags(p);
+    let place = p.next_pos();
+    let node = p.begin();
+    rule_parts(p, place)?;
+    Ok(p.close_at(node, Kind::Rule, flags))
 }

@@ -1,37 +1,33 @@
 // Types: parse_type, parse_typevalue, parse_type_variant, parse_fields and what they read.
-ghost use Rattle.std.specs.Prelude.{◌≡◌, ℕ, ◌+◌, ◌≤◌, ◌<◌, IfOk, Ok};
-ghost use Rattle.trees.specs.Ast.{kind_type_value_primitive, kind_type_value_enum, kind_type_value_struct, kind_variant, kind_fields_unit};
+ghost use Rattle.std.specs.Prelude.{◌≡◌, ℕ, Bool, ◌+◌, ◌*◌, ◌≤◌, ◌<◌, IfOk};
+ghost use Rattle.trees.specs.Ast.{kind_variant, kind_fields_unit};
+ghost use Rattle.trees.specs.KindNumber.{kind_number};
 ghost use Rattle.tokens.specs.Token.{is_rparen};
 ghost use Rattle.tokens.specs.Input.{size, peek};
-ghost use Rattle.steps.specs.Keywords.{word_primitive, word_enum, word_struct};
 ghost use Rattle.steps.specs.Outcome.{◌⊳◌, parent, bare, nothing, row, expect-lparen, expect-rparen, expect-word, parse_ident};
-ghost use Rattle.steps.specs.Met.{seen, state, Ready, Within, Near, Chained, ChainedAt, Moved};
-ghost use Rattle.parser.specs.Types.{parse_struct_field, parse_struct_fields, parse_tuple_field, parse_tuple_fields, parse_fields, parse_type_variant, parse_typevalue, modifiers_end, parse_modifiers, parse_type};
-ghost use Rattle.parser.specs.Modified.{TurnedTo, ModifiedFrom};
+ghost use Rattle.steps.specs.Met.{state, Near};
+ghost use Rattle.steps.specs.Read.{read_by, Read, ReadAt, Passed, Begins, Went};
+ghost use Rattle.parser.specs.Types.{parse_struct_field, parse_struct_fields, parse_tuple_field, parse_tuple_fields, parse_fields, parse_type_variant, parse_typevalue, parse_type};
+ghost use Rattle.parser.specs.Modified.{flags_of, TurnedTo, Modified, no_modifier};
 
-use reader::{after, peek, peek_second};
 use records::Ground;
-use steps::names::parse_ident;
-use steps::nodes::{close, close_at};
-use steps::parts::{Item, at_rparen, parse_row};
-use steps::{
-    Source, State, Stop, expect_lparen, expect_rparen, expect_word, inside, next_pos, next_token,
-    refuse_after, second_token,
-};
-use tokens::TokenKind;
+use steps::parts::{Item, Part};
+use steps::{Parser, Stop};
+use tokens::{Token, TokenKind};
 use trees::{Head, Kind};
 
 // `(name type)`
-fn parse_struct_field(s: &Source, out: &mut [u8], p: State) -> Result<State, Stop>
-    requires { Ready 4 (seen s.now) p }
-    ensures reads { Chained (parse_struct_field (seen s.now)) p out.old out.new result }
-    ensures within { IfOk result (Within 1 0 0 (seen s.now) p) }
+fn parse_struct_field(p: &mut Parser) -> Result<(), Stop>
+    requires { Begins 4 p.old }
+    ensures reads { Read parse_struct_field p.old p.new result }
+    ensures within { IfOk result (λ _. Went 1 0 0 p.old p.new) }
 {
-    let open = expect_lparen(s, inside(p))?;
-    let name = parse_ident(s, out, open)?;
-    let ty = parse_ident(s, out, name)?;
-    let q = expect_rparen(s, ty)?;
-    Ok(close_at(s, out, p, Kind::StructField, 0, q))
+    let node = p.begin();
+    p.expect_lparen()?;
+    p.parse_ident()?;
+    p.parse_ident()?;
+    p.expect_rparen()?;
+    Ok(p.close_at(node, Kind::StructField, 0))
 }
 
 // A field with a name, in the row of a struct's fields.
@@ -42,39 +38,38 @@ impl Item for StructField {
 
     ghost stop = { λ s i. is_rparen (peek s i) };
 
-    fn parse(s: &Source, out: &mut [u8], p: State) -> Result<State, Stop> {
-        parse_struct_field(s, out, p)
+    fn parse(p: &mut Parser) -> Result<(), Stop> {
+        parse_struct_field(p)
     }
 
-    fn ends(s: &Source, p: State) -> bool {
-        at_rparen(s, p)
+    fn ends(p: &Parser) -> bool {
+        p.at_rparen()
     }
 }
 
-fn parse_struct_fields(s: &Source, out: &mut [u8], p: State) -> Result<State, Stop>
-    requires { Ready 2 (seen s.now) p }
-    ensures reads { Chained (parse_struct_fields (seen s.now)) p out.old out.new result }
-    ensures within { IfOk result (Within 0 0 1 (seen s.now) p) }
+fn parse_struct_fields(p: &mut Parser) -> Result<(), Stop>
+    requires { Begins 2 p.old }
+    ensures reads { Read parse_struct_fields p.old p.new result }
+    ensures within { IfOk result (λ _. Went 0 0 1 p.old p.new) }
 {
-    let q = parse_row::<StructField>(s, out, inside(p))?;
-    Ok(close_at(s, out, p, Kind::FieldsStruct, 0, q))
+    let node = p.begin();
+    p.parse_row::<StructField>()?;
+    Ok(p.close_at(node, Kind::FieldsStruct, 0))
 }
 
 // A type; its index is how many stand before it.
-fn parse_tuple_field(s: &Source, out: &mut [u8], p: State) -> Result<State, Stop>
-    requires { Ready 4 (seen s.now) p }
-    ensures reads { ChainedAt (parse_tuple_field (seen s.now)) p out.old out.new result }
-    ensures within { IfOk result (Within 1 0 0 (seen s.now) p) }
+fn parse_tuple_field(p: &mut Parser) -> Result<(), Stop>
+    requires { Begins 4 p.old }
+    ensures reads { ReadAt parse_tuple_field p.old p.new result }
+    ensures within { IfOk result (λ _. Went 1 0 0 p.old p.new) }
 {
-    let q = parse_ident(s, out, inside(p))?;
+    let node = p.begin();
+    p.parse_ident()?;
     let h = Head {
-        kind: Kind::TupleField as u8,
-        flags: 0,
-        pos: next_pos(s, p),
-        word1: p.items as u64,
-        word2: 0,
+        word1: node.items as u64,
+        ..Head::plain(Kind::TupleField, 0, p.pos_at(node.next))
     };
-    Ok(close(out, p, h, q))
+    Ok(p.close(node, h))
 }
 
 // A field without a name, in the row of a tuple's fields.
@@ -85,80 +80,84 @@ impl Item for TupleField {
 
     ghost stop = { λ s i. is_rparen (peek s i) };
 
-    fn parse(s: &Source, out: &mut [u8], p: State) -> Result<State, Stop> {
-        parse_tuple_field(s, out, p)
+    fn parse(p: &mut Parser) -> Result<(), Stop> {
+        parse_tuple_field(p)
     }
 
-    fn ends(s: &Source, p: State) -> bool {
-        at_rparen(s, p)
+    fn ends(p: &Parser) -> bool {
+        p.at_rparen()
     }
 }
 
-fn parse_tuple_fields(s: &Source, out: &mut [u8], p: State) -> Result<State, Stop>
-    requires { Ready 2 (seen s.now) p }
-    ensures reads { Chained (parse_tuple_fields (seen s.now)) p out.old out.new result }
-    ensures within { IfOk result (Within 0 0 1 (seen s.now) p) }
+fn parse_tuple_fields(p: &mut Parser) -> Result<(), Stop>
+    requires { Begins 2 p.old }
+    ensures reads { Read parse_tuple_fields p.old p.new result }
+    ensures within { IfOk result (λ _. Went 0 0 1 p.old p.new) }
 {
-    let q = parse_row::<TupleField>(s, out, inside(p))?;
-    Ok(close_at(s, out, p, Kind::FieldsTuple, 0, q))
+    let node = p.begin();
+    p.parse_row::<TupleField>()?;
+    Ok(p.close_at(node, Kind::FieldsTuple, 0))
 }
 
 // No fields, which take no token.
-fn unit_fields(out: &mut [u8], p: State) -> State
-    requires { Near p }
-    ensures reads { Chained (bare kind_fields_unit nothing) p out.old out.new (Ok result) }
-    ensures one { result ≡ state p.next (p.count + 1) (p.items + 1) }
+fn unit_fields(p: &mut Parser)
+    requires { Near p.old.state }
+    ensures reads { Passed (λ _. bare kind_fields_unit nothing) p.old p.new }
+    ensures one { p.new.state ≡ state p.old.state.next (p.old.state.count + 1) (p.old.state.items + 1) }
 {
-    close(out, p, Head::plain(Kind::FieldsUnit, 0, 0), inside(p))
+    let node = p.begin();
+    p.close_bare(node, Kind::FieldsUnit);
 }
 
-fn parse_fields(s: &Source, out: &mut [u8], p: State) -> Result<State, Stop>
-    requires { Ready 2 (seen s.now) p }
-    ensures reads { Chained (parse_fields (seen s.now)) p out.old out.new result }
-    ensures within { IfOk result (Within 0 0 1 (seen s.now) p) }
+fn parse_fields(p: &mut Parser) -> Result<(), Stop>
+    requires { Begins 2 p.old }
+    ensures reads { Read parse_fields p.old p.new result }
+    ensures within { IfOk result (λ _. Went 0 0 1 p.old p.new) }
 {
-    let t = next_token(s, p);
+    let t = p.next_token();
     if t.is_rparen() {
-        return Ok(unit_fields(out, p));
+        return Ok(unit_fields(p));
     }
     if t.is_lparen() {
-        return parse_struct_fields(s, out, p);
+        return parse_struct_fields(p);
     }
-    parse_tuple_fields(s, out, p)
+    parse_tuple_fields(p)
 }
 
 // `(name fields)`
-fn variant_parens(s: &Source, out: &mut [u8], p: State) -> Result<State, Stop>
-    requires { Ready 4 (seen s.now) p }
-    ensures reads { Chained (parent (seen s.now) kind_variant 0 (expect-lparen (seen s.now) ⊳ parse_ident (seen s.now) ⊳ parse_fields (seen s.now) ⊳ expect-rparen (seen s.now))) p out.old out.new result }
-    ensures within { IfOk result (Within 1 0 0 (seen s.now) p) }
+fn variant_parens(p: &mut Parser) -> Result<(), Stop>
+    requires { Begins 4 p.old }
+    ensures reads { Read (λ s. parent s kind_variant 0 (expect-lparen s ⊳ parse_ident s ⊳ parse_fields s ⊳ expect-rparen s)) p.old p.new result }
+    ensures within { IfOk result (λ _. Went 1 0 0 p.old p.new) }
 {
-    let open = expect_lparen(s, inside(p))?;
-    let name = parse_ident(s, out, open)?;
-    let fields = parse_fields(s, out, name)?;
-    let q = expect_rparen(s, fields)?;
-    Ok(close_at(s, out, p, Kind::Variant, 0, q))
+    let node = p.begin();
+    p.expect_lparen()?;
+    p.parse_ident()?;
+    parse_fields(p)?;
+    p.expect_rparen()?;
+    Ok(p.close_at(node, Kind::Variant, 0))
 }
 
-fn variant_unit(s: &Source, out: &mut [u8], p: State) -> Result<State, Stop>
-    requires { Ready 4 (seen s.now) p }
-    ensures reads { Chained (parent (seen s.now) kind_variant 0 (parse_ident (seen s.now) ⊳ bare kind_fields_unit nothing)) p out.old out.new result }
-    ensures within { IfOk result (Within 1 0 0 (seen s.now) p) }
+fn variant_unit(p: &mut Parser) -> Result<(), Stop>
+    requires { Begins 4 p.old }
+    ensures reads { Read (λ s. parent s kind_variant 0 (parse_ident s ⊳ bare kind_fields_unit nothing)) p.old p.new result }
+    ensures within { IfOk result (λ _. Went 1 0 0 p.old p.new) }
 {
-    let name = parse_ident(s, out, inside(p))?;
-    let q = unit_fields(out, name);
-    Ok(close_at(s, out, p, Kind::Variant, 0, q))
+    let node = p.begin();
+    p.parse_ident()?;
+    unit_fields(p);
+    Ok(p.close_at(node, Kind::Variant, 0))
 }
 
-fn parse_type_variant(s: &Source, out: &mut [u8], p: State) -> Result<State, Stop>
-    requires { Ready 4 (seen s.now) p }
-    ensures reads { Chained (parse_type_variant (seen s.now)) p out.old out.new result }
-    ensures within { IfOk result (Within 1 0 0 (seen s.now) p) }
+fn parse_type_variant(p: &mut Parser) -> Result<(), Stop>
+    requires { Begins 4 p.old }
+    ensures reads { Read parse_type_variant p.old p.new result }
+    ensures within { IfOk result (λ _. Went 1 0 0 p.old p.new) }
 {
-    if next_token(s, p).is_symbol() {
-        return variant_unit(s, out, p);
+    if p.next_token().is_symbol() {
+        return variant_unit(p);
     }
-    variant_parens(s, out, p)
+    variant_parens(p)
 }
 
 // A variant, in the row of an enum's variants.
@@ -169,152 +168,153 @@ impl Item for Variant {
 
     ghost stop = { λ s i. is_rparen (peek s i) };
 
-    fn parse(s: &Source, out: &mut [u8], p: State) -> Result<State, Stop> {
-        parse_type_variant(s, out, p)
+    fn parse(p: &mut Parser) -> Result<(), Stop> {
+        parse_type_variant(p)
     }
 
-    fn ends(s: &Source, p: State) -> bool {
-        at_rparen(s, p)
+    fn ends(p: &Parser) -> bool {
+        p.at_rparen()
     }
 }
 
-fn variant_row(s: &Source, out: &mut [u8], p: State) -> Result<State, Stop>
-    requires { Ready 4 (seen s.now) p }
-    ensures reads { Chained (row (seen s.now) (parse_type_variant (seen s.now))) p out.old out.new result }
-    ensures within { IfOk result (Within 0 0 0 (seen s.now) p) }
-{
-    parse_row::<Variant>(s, out, p)
-}
+// What stands after `primitive`, `enum` and `struct`.
+struct Primitive;
 
-// `(primitive name)`
-fn value_primitive(s: &Source, out: &mut [u8], p: State) -> Result<State, Stop>
-    requires { Ready 4 (seen s.now) p }
-    ensures reads { Chained (parent (seen s.now) kind_type_value_primitive 0 (expect-lparen (seen s.now) ⊳ expect-word (seen s.now) word_primitive ⊳ parse_ident (seen s.now) ⊳ expect-rparen (seen s.now))) p out.old out.new result }
-    ensures within { IfOk result (Within 1 0 0 (seen s.now) p) }
-{
-    let open = expect_lparen(s, inside(p))?;
-    let word = expect_word(s, open, b"primitive")?;
-    let name = parse_ident(s, out, word)?;
-    let q = expect_rparen(s, name)?;
-    Ok(close_at(s, out, p, Kind::TypeValuePrimitive, 0, q))
-}
+impl Part for Primitive {
+    ghost reader = { parse_ident };
 
-// `(enum variants)`
-fn value_enum(s: &Source, out: &mut [u8], p: State) -> Result<State, Stop>
-    requires { Ready 4 (seen s.now) p }
-    ensures reads { Chained (parent (seen s.now) kind_type_value_enum 0 (expect-lparen (seen s.now) ⊳ expect-word (seen s.now) word_enum ⊳ row (seen s.now) (parse_type_variant (seen s.now)) ⊳ expect-rparen (seen s.now))) p out.old out.new result }
-    ensures within { IfOk result (Within 1 0 0 (seen s.now) p) }
-{
-    let open = expect_lparen(s, inside(p))?;
-    let word = expect_word(s, open, b"enum")?;
-    let variants = variant_row(s, out, word)?;
-    let q = expect_rparen(s, variants)?;
-    Ok(close_at(s, out, p, Kind::TypeValueEnum, 0, q))
-}
-
-// `(struct fields)`
-fn value_struct(s: &Source, out: &mut [u8], p: State) -> Result<State, Stop>
-    requires { Ready 4 (seen s.now) p }
-    ensures reads { Chained (parent (seen s.now) kind_type_value_struct 0 (expect-lparen (seen s.now) ⊳ expect-word (seen s.now) word_struct ⊳ parse_fields (seen s.now) ⊳ expect-rparen (seen s.now))) p out.old out.new result }
-    ensures within { IfOk result (Within 1 0 0 (seen s.now) p) }
-{
-    let open = expect_lparen(s, inside(p))?;
-    let word = expect_word(s, open, b"struct")?;
-    let fields = parse_fields(s, out, word)?;
-    let q = expect_rparen(s, fields)?;
-    Ok(close_at(s, out, p, Kind::TypeValueStruct, 0, q))
-}
-
-fn parse_typevalue(s: &Source, out: &mut [u8], p: State) -> Result<State, Stop>
-    requires { Ready 4 (seen s.now) p }
-    ensures reads { Chained (parse_typevalue (seen s.now)) p out.old out.new result }
-    ensures within { IfOk result (Within 1 0 0 (seen s.now) p) }
-{
-    let u = second_token(s, p);
-    if u.is_word(s.text, b"primitive") {
-        return value_primitive(s, out, p);
+    fn parse(p: &mut Parser) -> Result<(), Stop> {
+        p.parse_ident()
     }
-    if u.is_word(s.text, b"enum") {
-        return value_enum(s, out, p);
-    }
-    if u.is_word(s.text, b"struct") {
-        return value_struct(s, out, p);
-    }
-    refuse_after(s, p, TokenKind::LParen, Ground::TypeDefinition)
 }
 
-// What the modifiers after a type's name are: their flags and the index after them.
+struct Enum;
+
+impl Part for Enum {
+    ghost reader = { λ s. row s (parse_type_variant s) };
+
+    fn parse(p: &mut Parser) -> Result<(), Stop> {
+        p.parse_row::<Variant>()
+    }
+}
+
+struct Struct;
+
+impl Part for Struct {
+    ghost reader = { parse_fields };
+
+    fn parse(p: &mut Parser) -> Result<(), Stop> {
+        parse_fields(p)
+    }
+}
+
+// `(primitive name)`, `(enum variants)` or `(struct fields)`, by the second token u, which is the word w.
+fn value<P: Part>(p: &mut Parser, kind: Kind, w: &[u8], u: Token) -> Result<(), Stop>
+    requires ready { Begins 4 p.old }
+    requires second { u ≡ peek (read_by p.old) (p.old.state.next + 1) }
+    ensures reads { Read (λ s. parent s (kind_number kind) 0 (expect-lparen s ⊳ expect-word s w.now ⊳ P.reader s ⊳ expect-rparen s)) p.old p.new result }
+    ensures within { IfOk result (λ _. Went 1 0 0 p.old p.new) }
+{
+    let node = p.begin();
+    p.parse_worded::<P>(w, u)?;
+    Ok(p.close_at(node, kind, 0))
+}
+
+fn parse_typevalue(p: &mut Parser) -> Result<(), Stop>
+    requires { Begins 4 p.old }
+    ensures reads { Read parse_typevalue p.old p.new result }
+    ensures within { IfOk result (λ _. Went 1 0 0 p.old p.new) }
+{
+    let u = p.second_token();
+    if u.is_word(p.source.text, b"primitive") {
+        return value::<Primitive>(p, Kind::TypeValuePrimitive, b"primitive", u);
+    }
+    if u.is_word(p.source.text, b"enum") {
+        return value::<Enum>(p, Kind::TypeValueEnum, b"enum", u);
+    }
+    if u.is_word(p.source.text, b"struct") {
+        return value::<Struct>(p, Kind::TypeValueStruct, b"struct", u);
+    }
+    p.refuse_after(TokenKind::LParen, Ground::TypeDefinition)
+}
+
+// The modifiers that stood behind a type's name.
 #[derive(Clone, Copy)]
 struct Modifiers {
-    flags: u8,
-    next: usize,
+    external: bool,
+    nodebug: bool,
 }
 
-// What `extern` and `nodebug` are after the modifier at an index, where one stands there.
-fn modifier(s: &Source, at: usize, e: u8, n: u8) -> Option<(u8, u8)>
-    requires { (e ≤ 1) × (n ≤ 2) }
-    ensures { TurnedTo (seen s.now) e n at result }
-{
-    let t = peek(s.tokens, s.end, at);
-    if t.is_word(s.text, b"extern") {
-        return Some((1, n));
+impl Modifiers {
+    fn flags(self) -> u8
+        ensures { result ≡ flags_of self }
+    {
+        u8::from(self.external) + u8::from(self.nodebug) * 2
     }
-    if t.is_word(s.text, b"nodebug") {
-        return Some((e, 2));
-    }
-    None
-}
 
-// The modifiers from an index on.
-fn modifiers_from(s: &Source, from: usize) -> Modifiers
-    requires near { from < 8589934592 }
-    requires few { size (seen s.now) ≤ 16385 }
-    ensures { ModifiedFrom (seen s.now) from result.flags result.next }
-{
-    let mut at = from;
-    let mut e: u8 = 0;
-    let mut n: u8 = 0;
-    while let Some((more_e, more_n)) = modifier(s, at, e, n) {
-        e = more_e;
-        n = more_n;
-        at = after(s.tokens, at);
-    }
-    Modifiers {
-        flags: e + n,
-        next: at,
+    // These and the next token, where it is a modifier.
+    fn and_next(self, p: &Parser) -> Option<Modifiers>
+        ensures { TurnedTo (read_by p.now) self p.now.state.next result }
+    {
+        let t = p.next_token();
+        if t.is_word(p.source.text, b"extern") {
+            return Some(Modifiers {
+                external: true,
+                ..self
+            });
+        }
+        if t.is_word(p.source.text, b"nodebug") {
+            return Some(Modifiers {
+                nodebug: true,
+                ..self
+            });
+        }
+        None
     }
 }
 
-// The state after the modifiers behind a name, which end at an index.
-fn pass_modifiers(s: &Source, name: State, next: usize) -> Result<State, Stop>
-    requires near { next < 17179869184 }
-    requires ends { next ≡ modifiers_end (seen s.now) (size (seen s.now)) name.next }
-    ensures reads { Moved (parse_modifiers (seen s.now)) name result }
-    ensures within { IfOk result (Within 0 0 0 (seen s.now) name) }
+// The modifiers behind a type's name are passed, in any order and repeated: their flags.
+// Kept: each turn passes a token and keeps which modifiers were met, and the first token that is none ends it.
+fn pass_modifiers(p: &mut Parser) -> u8
+    requires { Begins 5 p.old }
+    ensures { Modified p.old p.new result }
 {
-    if peek(s.tokens, s.end, next).is_symbol() {
+    let mut met = Modifiers {
+        external: false,
+        nodebug: false,
+    };
+    while let Some(more) = met.and_next(p) {
+        met = more;
+        p.pass();
+    }
+    met.flags()
+}
+
+// A symbol behind the modifiers is refused, at the token after it.
+fn no_modifier(p: &Parser) -> Result<(), Stop>
+    requires { p.now.state.next < 4294967296 }
+    ensures { Read no_modifier p.now p.now result }
+{
+    if p.next_token().is_symbol() {
         return Err(Stop {
             why: Ground::TypeModifier,
-            place: peek_second(s.tokens, s.end, next).pos,
-            taken: after(s.tokens, next),
+            place: p.pos_at(p.state.next + 1),
+            taken: p.state.next + 1,
         });
     }
-    Ok(State {
-        next,
-        count: name.count,
-        items: name.items,
-    })
+    Ok(())
 }
 
 // After `type`: a name, modifiers, a value.
-pub fn parse_type(s: &Source, out: &mut [u8], p: State) -> Result<State, Stop>
-    requires { Ready 4 (seen s.now) p }
-    ensures reads { Chained (parse_type (seen s.now)) p out.old out.new result }
-    ensures within { IfOk result (Within 1 0 0 (seen s.now) p) }
+pub fn parse_type(p: &mut Parser) -> Result<(), Stop>
+    requires { Begins 4 p.old }
+    ensures reads { Read parse_type p.old p.new result }
+    ensures within { IfOk result (λ _. Went 1 0 0 p.old p.new) }
 {
-    let name = parse_ident(s, out, inside(p))?;
-    let m = modifiers_from(s, name.next);
-    let after = pass_modifiers(s, name, m.next)?;
-    let q = parse_typevalue(s, out, after)?;
-    Ok(close_at(s, out, p, Kind::TypeDef, m.flags, q))
+    let node = p.begin();
+    p.parse_ident()?;
+    let flags = pass_modifiers(p);
+    no_modifier(p)?;
+    parse_typevalue(p)?;
+    Ok(p.close_at(node, Kind::TypeDef, flags))
 }

@@ -24,6 +24,7 @@ use Rattle.steps.specs.Sizes.{Bounded}
 use Rattle.steps.specs.Met.{seen, told, state, Met, SymbolAt, Chained, Moved, Closed, Leafed, Ready, Within, inside}
 use Rattle.steps.specs.Read.{read_by, came_to, Same, Read, Passed, ReadAt, Begun, ClosedBy, LeafedBy, Begins, Went}
 use Rattle.steps.proofs.MetLaws as met
+use Rattle.steps.proofs.SizeLaws.{less_bounded}
 use Rattle.steps.proofs.StepLaws as steps
 use Rattle.steps.proofs.NameLaws as names
 use Rattle.steps.proofs.RowLaws as rows
@@ -108,7 +109,7 @@ here f m = record { read = m.read; same = m.same }
 -- ---- nodes
 
 -- the children, read from where the node begins
-children : (f : Input → Reader) (p p₁ p₂ : Parser) (r : Result (Unit {0}) Stop) → Begun p p₁ → Read f p₁ p₂ r → Chained (f (read_by p)) p₁.state p.out.now p₂.out.now (came_to r p₂.state)
+pub children : (f : Input → Reader) (p p₁ p₂ : Parser) (r : Result (Unit {0}) Stop) → Begun p p₁ → Read f p₁ p₂ r → Chained (f (read_by p)) p₁.state p.out.now p₂.out.now (came_to r p₂.state)
 children f p p₁ p₂ r b m =
     subst (λ (x : List ℕ). Chained (f (read_by p)) p₁.state x p₂.out.now (came_to r p₂.state)) b.unwritten
     (read_on f p.source p₁.source p₁.state p₁.out.now p₂.out.now (came_to r p₂.state) b.same.source m.read)
@@ -218,6 +219,10 @@ bounded_went u c d {f = f} {p = p} {p' = p'} {r = r} b m = go r (met.bounded_wit
     go : (x : Result (Unit {0}) Stop) → IfOk (came_to x p'.state) (Within u c d (read_by p) p.state) → IfOk x (λ _. Went u c d p p')
     go (Ok u) h = h
     go (Err d) h = tt
+
+-- the same with no record to spare
+pub bounded_on : {f : Input → Reader} {p p' : Parser} {r : Result (Unit {0}) Stop} → ((s : Input) → Bounded 1 1 0 s (f s)) → Read f p p' r → IfOk r (λ _. Went 1 0 0 p p')
+bounded_on {f = f} b m = bounded_went 1 0 0 (λ s. less_bounded 1 1 0 1 0 0 s (f s) (omega arith) (omega arith) (b s)) m
 
 -- a token further
 pub token_on : {s : Input} {p q : State} → q ≡ state (p.next + 1) p.count p.items → p.next < size s → Within 0 0 0 s p q

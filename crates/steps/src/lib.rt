@@ -109,6 +109,13 @@ impl Parser<'_> {
         kind_at(self.source.tokens, after(self.source.tokens, self.state.next))
     }
 
+    // The position of the next token.
+    pub fn next_pos(&self) -> u32
+        ensures { result ≡ pos_at (read_by self.now) self.now.state.next }
+    {
+        pos_at(self.source.tokens, self.source.end, self.state.next)
+    }
+
     // The position of the token at an index.
     pub fn pos_at(&self, at: usize) -> u32
         ensures { result ≡ pos_at (read_by self.now) at }
@@ -131,8 +138,8 @@ impl Parser<'_> {
         self.second_token().is_word(self.source.text, w)
     }
 
-    // A token is passed.
-    fn pass(&mut self)
+    // The next token is passed.
+    pub fn pass(&mut self)
         requires { self.old.state.next < size (read_by self.old) }
         ensures next { self.new.state ≡ state (self.old.state.next + 1) self.old.state.count self.old.state.items }
         ensures unwritten { self.new.out.now ≡ self.old.out.now }
@@ -243,7 +250,7 @@ impl Parser<'_> {
     {
         Err(Stop {
             why,
-            place: self.pos_at(self.state.next),
+            place: self.next_pos(),
             taken: self.state.next,
         })
     }

@@ -45,6 +45,15 @@ impl Parser<'_> {
         self.close(node, Head::plain(kind, flags, t.pos));
     }
 
+    // The same for a node without words and position.
+    pub fn close_bare(&mut self, node: State, kind: Kind)
+        requires near { Near node }
+        requires few { self.old.state.items < 65536 }
+        ensures { ClosedBy (head (kind_number kind) 0 0 0 0) node self.old self.new }
+    {
+        self.close(node, Head::plain(kind, 0, 0));
+    }
+
     // A node without children, of one token.
     pub fn put_leaf(&mut self, h: Head)
         requires { Near self.old.state }

@@ -1,28 +1,24 @@
-use Rattle.std.proofs.Common.{arith, sym, refl, ap, ◌∙◌, ◌+◌, []}
-use Rattle.tokens.specs.Token.{is_rparen}
-use Rattle.tokens.specs.Input.{peek, size}
-use Rattle.steps.specs.Met.{seen}
-use Rattle.steps.proofs.MetLaws.{◌▷◌, stop, moved, exit, node_read, node_stopped, flagged_read, flagged_stopped, bare_read, bare_stopped, nothing_read, next_yes, next_no, second_yes, second_no, leaf_read, bounded_within, within_less}
-use Rattle.steps.proofs.RowLaws.{plain_row}
+use Rattle.std.proofs.Common.{arith, sym, refl, ap, ◌∙◌, ◌+◌, ◌-◌}
+use Rattle.steps.proofs.ReadLaws.{◌▷◌, stop, exit, stepped, refused, unmoved, node_at, node_stopped, bare_read, bare_stopped, flagged_read, flagged_stopped, empty_node, nothing_read, next_yes, next_no, second_yes, second_no, bounded_went, plain_row}
 use Rattle.parser.specs.Defs.{rest_def}
 use Rattle.parser.proofs.parse_def_rest.Goals as goal
 
 pub returns-then-is_word-clause-reads : goal.returns-then-is_word-clause-reads
 unfolding rest_def
-returns-then-is_word-clause-reads c = second_yes _ _ _ c.requires.second c.is_word.ensures c.if-is_word.true (c.parse_worded.ensures.reads)
+returns-then-is_word-clause-reads c = second_yes _ _ c.requires.second c.is_word.ensures c.if-is_word.true (c.parse_worded.ensures.reads)
 
 pub returns-then-is_word-2-clause-reads : goal.returns-then-is_word-2-clause-reads
 unfolding rest_def
-returns-then-is_word-2-clause-reads c = second_no _ _ _ c.requires.second c.is_word.ensures c.if-is_word.false (second_yes _ _ _ c.requires.second c.is_word-2.ensures c.if-is_word-2.true (c.parse_worded-then-is_word-2.ensures.reads))
+returns-then-is_word-2-clause-reads c = second_no _ _ c.requires.second c.is_word.ensures c.if-is_word.false (second_yes _ _ c.requires.second c.is_word-2.ensures c.if-is_word-2.true (c.parse_worded-then-is_word-2.ensures.reads))
 
 pub returns-then-is_word-3-clause-reads : goal.returns-then-is_word-3-clause-reads
 unfolding rest_def
-returns-then-is_word-3-clause-reads c = second_no _ _ _ c.requires.second c.is_word.ensures c.if-is_word.false (second_no _ _ _ c.requires.second c.is_word-2.ensures c.if-is_word-2.false (second_yes _ _ _ c.requires.second c.is_word-3.ensures c.if-is_word-3.true (c.parse_worded-then-is_word-3.ensures.reads)))
+returns-then-is_word-3-clause-reads c = second_no _ _ c.requires.second c.is_word.ensures c.if-is_word.false (second_no _ _ c.requires.second c.is_word-2.ensures c.if-is_word-2.false (second_yes _ _ c.requires.second c.is_word-3.ensures c.if-is_word-3.true (c.parse_worded-then-is_word-3.ensures.reads)))
 
 pub returns-then-is_word-4-clause-reads : goal.returns-then-is_word-4-clause-reads
 unfolding rest_def
-returns-then-is_word-4-clause-reads c = second_no _ _ _ c.requires.second c.is_word.ensures c.if-is_word.false (second_no _ _ _ c.requires.second c.is_word-2.ensures c.if-is_word-2.false (second_no _ _ _ c.requires.second c.is_word-3.ensures c.if-is_word-3.false (second_yes _ _ _ c.requires.second c.is_word-4.ensures c.if-is_word-4.true (c.parse_worded-then-is_word-4.ensures.reads))))
+returns-then-is_word-4-clause-reads c = second_no _ _ c.requires.second c.is_word.ensures c.if-is_word.false (second_no _ _ c.requires.second c.is_word-2.ensures c.if-is_word-2.false (second_no _ _ c.requires.second c.is_word-3.ensures c.if-is_word-3.false (second_yes _ _ c.requires.second c.is_word-4.ensures c.if-is_word-4.true (c.parse_worded-then-is_word-4.ensures.reads))))
 
 pub returns-clause-reads : goal.returns-clause-reads
 unfolding rest_def
-returns-clause-reads c = second_no _ _ _ c.requires.second c.is_word.ensures c.if-is_word.false (second_no _ _ _ c.requires.second c.is_word-2.ensures c.if-is_word-2.false (second_no _ _ _ c.requires.second c.is_word-3.ensures c.if-is_word-3.false (second_no _ _ _ c.requires.second c.is_word-4.ensures c.if-is_word-4.false (moved c.other_def.ensures.reads))))
+returns-clause-reads c = second_no _ _ c.requires.second c.is_word.ensures c.if-is_word.false (second_no _ _ c.requires.second c.is_word-2.ensures c.if-is_word-2.false (second_no _ _ c.requires.second c.is_word-3.ensures c.if-is_word-3.false (second_no _ _ c.requires.second c.is_word-4.ensures c.if-is_word-4.false c.other_def.ensures.reads)))

@@ -1,12 +1,10 @@
-use Rattle.std.proofs.Common.{arith, sym, refl, ap, ◌∙◌, ◌+◌, []}
-use Rattle.tokens.specs.Token.{is_rparen}
-use Rattle.tokens.specs.Input.{peek, size}
-use Rattle.steps.specs.Met.{seen}
-use Rattle.steps.proofs.MetLaws.{◌▷◌, stop, moved, exit, node_read, node_stopped, flagged_read, flagged_stopped, bare_read, bare_stopped, nothing_read, next_yes, next_no, second_yes, second_no, leaf_read, bounded_within, within_less}
-use Rattle.steps.proofs.RowLaws.{plain_row}
-use Rattle.parser.specs.Defs.{parse_defs}
+use Rattle.std.proofs.Common.{arith, sym, refl, ap, ◌∙◌, ◌+◌, ◌-◌}
+use lib.Dec.{leb}
+use Rattle.tokens.specs.Input.{size}
+use Rattle.steps.proofs.ReadLaws.{◌▷◌, stop, exit, stepped, refused, unmoved, node_at, node_stopped, bare_read, bare_stopped, flagged_read, flagged_stopped, empty_node, nothing_read, next_yes, next_no, second_yes, second_no, bounded_went, plain_row}
+use Rattle.parser.specs.Defs.{parse_def, parse_defs}
 use Rattle.parser.proofs.parse_defs.Goals as goal
 
 pub returns-clause-reads : goal.returns-clause-reads
 unfolding parse_defs
-returns-clause-reads c = plain_row (seen c.args.s.now) _ _ c.parse_row.ensures.reads
+returns-clause-reads c = plain_row (λ s i. leb (size s) i) parse_def c.parse_row.ensures.reads

@@ -1,20 +1,19 @@
-use Rattle.std.proofs.Common.{arith, sym, refl, ap, ◌∙◌, ◌+◌, []}
-use Rattle.tokens.specs.Token.{is_rparen}
-use Rattle.tokens.specs.Input.{peek, size}
-use Rattle.steps.specs.Met.{seen}
-use Rattle.steps.proofs.MetLaws.{◌▷◌, stop, moved, exit, node_read, node_stopped, flagged_read, flagged_stopped, bare_read, bare_stopped, nothing_read, next_yes, next_no, second_yes, second_no, leaf_read, bounded_within, within_less}
-use Rattle.steps.proofs.RowLaws.{plain_row}
+use Rattle.std.proofs.Common.{arith, sym, refl, ap, ◌∙◌, ◌+◌, ◌-◌}
+use Rattle.steps.specs.Keywords.{word-rule}
+use Rattle.steps.specs.Outcome.{ate}
+use Rattle.steps.proofs.ReadLaws.{◌▷◌, stop, exit, stepped, refused, unmoved, node_at, node_stopped, bare_read, bare_stopped, flagged_read, flagged_stopped, empty_node, nothing_read, next_yes, next_no, second_yes, second_no, bounded_went, plain_row}
 use Rattle.parser.specs.Defs.{parse_attr}
+use Rattle.parser.proofs.DeclLaws.{flag_begun}
 use Rattle.parser.proofs.attrs.parse_attr.Goals as goal
 
-pub returns-in_err-target-clause-reads : goal.returns-in_err-target-clause-reads
+pub returns-in_err-parse_ident-clause-reads : goal.returns-in_err-parse_ident-clause-reads
 unfolding parse_attr
-returns-in_err-target-clause-reads c = exit c.from_residual.ensures (flagged_stopped _ _ _ c.inside.ensures (stop _ ((moved c.eat-word.ensures.reads) ▷ c.in_err-target.ensures.reads)))
+returns-in_err-parse_ident-clause-reads c = exit c.from_residual.ensures (flagged_stopped _ (λ s i. ate s word-rule i - i) c.begin-node.ensures.begun (stop _ (c.eat-rule.ensures.reads ▷ c.in_err-parse_ident.ensures.reads)))
 
-pub returns-in_err-q-clause-reads : goal.returns-in_err-q-clause-reads
+pub returns-in_err-attr_kind_row-clause-reads : goal.returns-in_err-attr_kind_row-clause-reads
 unfolding parse_attr
-returns-in_err-q-clause-reads c = exit c.from_residual-in_err-q.ensures (flagged_stopped _ _ _ c.inside.ensures ((moved c.eat-word.ensures.reads) ▷ c.in_ok-target.ensures.reads ▷ c.in_err-q.ensures.reads))
+returns-in_err-attr_kind_row-clause-reads c = exit c.from_residual-in_err-attr_kind_row.ensures (flagged_stopped _ (λ s i. ate s word-rule i - i) c.begin-node.ensures.begun (c.eat-rule.ensures.reads ▷ c.in_ok-parse_ident.ensures.reads ▷ c.in_err-attr_kind_row.ensures.reads))
 
 pub returns-clause-reads : goal.returns-clause-reads
 unfolding parse_attr
-returns-clause-reads c = flagged_read (seen c.args.s.now) _ c.close_at.ensures c.eaten-flags.ensures c.inside.ensures ((moved c.eat-word.ensures.reads) ▷ c.in_ok-target.ensures.reads ▷ c.in_ok-q.ensures.reads)
+returns-clause-reads c = flagged_read _ (λ s i. ate s word-rule i - i) (c.from.ensures ∙ flag_begun word-rule c.begin-node.ensures.begun c.eat-rule.ensures.stands) c.begin-node.ensures.start c.begin-node.ensures.begun (c.eat-rule.ensures.reads ▷ c.in_ok-parse_ident.ensures.reads ▷ c.in_ok-attr_kind_row.ensures.reads) c.close_at.ensures

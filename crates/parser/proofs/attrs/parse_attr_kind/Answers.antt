@@ -1,28 +1,25 @@
-use Rattle.std.proofs.Common.{arith, sym, refl, ap, ◌∙◌, ◌+◌, []}
-use Rattle.tokens.specs.Token.{is_rparen}
-use Rattle.tokens.specs.Input.{peek, size}
-use Rattle.steps.specs.Met.{seen}
-use Rattle.steps.proofs.MetLaws.{◌▷◌, stop, moved, exit, node_read, node_stopped, flagged_read, flagged_stopped, bare_read, bare_stopped, nothing_read, next_yes, next_no, second_yes, second_no, leaf_read, bounded_within, within_less}
-use Rattle.steps.proofs.RowLaws.{plain_row}
+use Rattle.std.proofs.Common.{arith, sym, refl, ap, ◌∙◌, ◌+◌, ◌-◌}
+use Rattle.steps.proofs.ReadLaws.{bounded_on}
+use Rattle.steps.proofs.ReadLaws.{◌▷◌, stop, exit, stepped, refused, unmoved, node_at, node_stopped, bare_read, bare_stopped, flagged_read, flagged_stopped, empty_node, nothing_read, next_yes, next_no, second_yes, second_no, bounded_went, plain_row}
 use Rattle.parser.specs.Defs.{parse_attr_kind}
 use Rattle.parser.proofs.DefLaws.{attr_kind_bounded}
 use Rattle.parser.proofs.attrs.parse_attr_kind.Goals as goal
 
 pub returns-then-is_word-clause-reads : goal.returns-then-is_word-clause-reads
 unfolding parse_attr_kind
-returns-then-is_word-clause-reads c = second_yes _ _ _ c.second_token-u.ensures c.is_word.ensures c.if-is_word.true (c.attr_veri.ensures.reads)
+returns-then-is_word-clause-reads c = second_yes _ _ c.second_token-u.ensures c.is_word.ensures c.if-is_word.true (c.parse_worded.ensures.reads)
 
 pub returns-then-is_word-2-clause-reads : goal.returns-then-is_word-2-clause-reads
 unfolding parse_attr_kind
-returns-then-is_word-2-clause-reads c = second_no _ _ _ c.second_token-u.ensures c.is_word.ensures c.if-is_word.false (second_yes _ _ _ c.second_token-u.ensures c.is_word-2.ensures c.if-is_word-2.true (c.attr_tag.ensures.reads))
+returns-then-is_word-2-clause-reads c = second_no _ _ c.second_token-u.ensures c.is_word.ensures c.if-is_word.false (second_yes _ _ c.second_token-u.ensures c.is_word-2.ensures c.if-is_word-2.true (c.parse_worded-then-is_word-2.ensures.reads))
 
 pub returns-clause-reads : goal.returns-clause-reads
 unfolding parse_attr_kind
-returns-clause-reads c = second_no _ _ _ c.second_token-u.ensures c.is_word.ensures c.if-is_word.false (second_no _ _ _ c.second_token-u.ensures c.is_word-2.ensures c.if-is_word-2.false (moved c.in_ok-open.ensures.reads ▷ moved c.refuse_after.ensures))
+returns-clause-reads c = second_no _ _ c.second_token-u.ensures c.is_word.ensures c.if-is_word.false (second_no _ _ c.second_token-u.ensures c.is_word-2.ensures c.if-is_word-2.false (c.in_ok-expect_lparen.ensures.reads ▷ c.refuse_after.ensures))
 
-pub returns-in_err-open-clause-reads : goal.returns-in_err-open-clause-reads
+pub returns-in_err-expect_lparen-clause-reads : goal.returns-in_err-expect_lparen-clause-reads
 unfolding parse_attr_kind
-returns-in_err-open-clause-reads c = exit c.from_residual.ensures (second_no _ _ _ c.second_token-u.ensures c.is_word.ensures c.if-is_word.false (second_no _ _ _ c.second_token-u.ensures c.is_word-2.ensures c.if-is_word-2.false (stop _ (moved c.in_err-open.ensures.reads))))
+returns-in_err-expect_lparen-clause-reads c = exit c.from_residual.ensures (second_no _ _ c.second_token-u.ensures c.is_word.ensures c.if-is_word.false (second_no _ _ c.second_token-u.ensures c.is_word-2.ensures c.if-is_word-2.false (stop _ c.in_err-expect_lparen.ensures.reads)))
 
 pub returns-clause-within : goal.returns-clause-within
-returns-clause-within c = within_less 1 1 0 1 0 0 _ _ _ (omega arith) (omega arith) (bounded_within (attr_kind_bounded (seen c.args.s.now)) (returns-clause-reads c))
+returns-clause-within c = bounded_on attr_kind_bounded (returns-clause-reads c)

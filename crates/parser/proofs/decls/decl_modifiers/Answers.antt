@@ -1,11 +1,10 @@
-use Rattle.std.proofs.Common.{arith, sym, refl, ap, ◌∙◌, ◌+◌, []}
-use Rattle.tokens.specs.Token.{is_rparen}
-use Rattle.tokens.specs.Input.{peek, size}
-use Rattle.steps.specs.Met.{seen}
-use Rattle.steps.proofs.MetLaws.{◌▷◌, stop, moved, exit, node_read, node_stopped, flagged_read, flagged_stopped, bare_read, bare_stopped, nothing_read, next_yes, next_no, second_yes, second_no, leaf_read, bounded_within, within_less}
-use Rattle.steps.proofs.RowLaws.{plain_row}
-use Rattle.parser.proofs.DeclLaws.{decl_modified}
+use Rattle.std.proofs.Common.{arith, sym, refl, ap, ◌∙◌, ◌+◌, ◌-◌}
+use Rattle.steps.proofs.ReadLaws.{◌▷◌, stop, exit, stepped, refused, unmoved, node_at, node_stopped, bare_read, bare_stopped, flagged_read, flagged_stopped, empty_node, nothing_read, next_yes, next_no, second_yes, second_no, bounded_went, plain_row}
+use Rattle.parser.proofs.DeclLaws.{decl_flagged, decl_passed}
 use Rattle.parser.proofs.decls.decl_modifiers.Goals as goal
 
-pub returns : goal.returns
-returns c = decl_modified _ _ _ _ _ _ c.ate_of-a.ensures.index c.ate_of-b.ensures.index c.ate_of-c.ensures.index c.ate_of-d.ensures.index
+pub returns-clause-flags : goal.returns-clause-flags
+returns-clause-flags c = rw (c.from.ensures, c.from-2.ensures, c.from-3.ensures, c.from-4.ensures) (decl_flagged c.eat-pure.ensures.reads c.eat-multi.ensures.reads c.eat-partial.ensures.reads c.eat-pure.ensures.stands c.eat-multi.ensures.stands c.eat-partial.ensures.stands c.eat-rec.ensures.stands)
+
+pub returns-clause-reads : goal.returns-clause-reads
+returns-clause-reads c = decl_passed c.eat-pure.ensures.reads c.eat-multi.ensures.reads c.eat-partial.ensures.reads c.eat-rec.ensures.reads

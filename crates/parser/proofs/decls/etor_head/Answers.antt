@@ -1,24 +1,20 @@
-use Rattle.std.proofs.Common.{arith, sym, refl, ap, ◌∙◌, ◌+◌, []}
-use Rattle.tokens.specs.Token.{is_rparen}
-use Rattle.tokens.specs.Input.{peek, size}
-use Rattle.steps.specs.Met.{seen}
-use Rattle.steps.proofs.MetLaws.{◌▷◌, stop, moved, exit, node_read, node_stopped, flagged_read, flagged_stopped, bare_read, bare_stopped, nothing_read, next_yes, next_no, second_yes, second_no, leaf_read, bounded_within, within_less}
-use Rattle.steps.proofs.RowLaws.{plain_row}
+use Rattle.std.proofs.Common.{arith, sym, refl, ap, ◌∙◌, ◌+◌, ◌-◌}
+use Rattle.steps.proofs.ReadLaws.{◌▷◌, stop, exit, stepped, refused, unmoved, node_at, node_stopped, bare_read, bare_stopped, flagged_read, flagged_stopped, empty_node, nothing_read, next_yes, next_no, second_yes, second_no, bounded_went, plain_row}
 use Rattle.parser.specs.Defs.{etor_head}
 use Rattle.parser.proofs.decls.etor_head.Goals as goal
 
-pub returns-in_err-open-clause-reads : goal.returns-in_err-open-clause-reads
+pub returns-in_err-expect_lparen-clause-reads : goal.returns-in_err-expect_lparen-clause-reads
 unfolding etor_head
-returns-in_err-open-clause-reads c = exit c.from_residual.ensures (stop _ (stop _ (stop _ ((moved c.in_err-open.ensures.reads)))))
+returns-in_err-expect_lparen-clause-reads c = exit c.from_residual.ensures (stop _ (stop _ (stop _ c.in_err-expect_lparen.ensures.reads)))
 
-pub returns-in_err-term-clause-reads : goal.returns-in_err-term-clause-reads
+pub returns-in_err-parse_ident-clause-reads : goal.returns-in_err-parse_ident-clause-reads
 unfolding etor_head
-returns-in_err-term-clause-reads c = exit c.from_residual-in_err-term.ensures (stop _ (stop _ ((moved c.in_ok-open.ensures.reads) ▷ c.in_err-term.ensures.reads)))
+returns-in_err-parse_ident-clause-reads c = exit c.from_residual-in_err-parse_ident.ensures (stop _ (stop _ (c.in_ok-expect_lparen.ensures.reads ▷ c.in_err-parse_ident.ensures.reads)))
 
-pub returns-in_err-args-clause-reads : goal.returns-in_err-args-clause-reads
+pub returns-in_err-parse_idents-clause-reads : goal.returns-in_err-parse_idents-clause-reads
 unfolding etor_head
-returns-in_err-args-clause-reads c = exit c.from_residual-in_err-args.ensures (stop _ ((moved c.in_ok-open.ensures.reads) ▷ c.in_ok-term.ensures.reads ▷ c.in_err-args.ensures.reads))
+returns-in_err-parse_idents-clause-reads c = exit c.from_residual-in_err-parse_idents.ensures (stop _ (c.in_ok-expect_lparen.ensures.reads ▷ c.in_ok-parse_ident.ensures.reads ▷ c.in_err-parse_idents.ensures.reads))
 
 pub returns-clause-reads : goal.returns-clause-reads
 unfolding etor_head
-returns-clause-reads c = (moved c.in_ok-open.ensures.reads) ▷ c.in_ok-term.ensures.reads ▷ c.in_ok-args.ensures.reads ▷ moved c.expect_rparen.ensures.reads
+returns-clause-reads c = c.in_ok-expect_lparen.ensures.reads ▷ c.in_ok-parse_ident.ensures.reads ▷ c.in_ok-parse_idents.ensures.reads ▷ c.expect_rparen.ensures.reads

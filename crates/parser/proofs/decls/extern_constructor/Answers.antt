@@ -1,19 +1,15 @@
-use Rattle.std.proofs.Common.{arith, sym, refl, ap, ◌∙◌, ◌+◌, []}
-use Rattle.tokens.specs.Token.{is_rparen}
-use Rattle.tokens.specs.Input.{peek, size}
-use Rattle.steps.specs.Met.{seen}
-use Rattle.steps.proofs.MetLaws.{◌▷◌, stop, moved, exit, node_read, node_stopped, flagged_read, flagged_stopped, bare_read, bare_stopped, nothing_read, next_yes, next_no, second_yes, second_no, leaf_read, bounded_within, within_less}
-use Rattle.steps.proofs.RowLaws.{plain_row}
+use Rattle.std.proofs.Common.{arith, sym, refl, ap, ◌∙◌, ◌+◌, ◌-◌}
+use Rattle.steps.proofs.ReadLaws.{◌▷◌, stop, exit, stepped, refused, unmoved, node_at, node_stopped, bare_read, bare_stopped, flagged_read, flagged_stopped, empty_node, nothing_read, next_yes, next_no, second_yes, second_no, bounded_went, plain_row}
 use Rattle.parser.proofs.decls.extern_constructor.Goals as goal
 
-pub returns-in_err-word-clause-reads : goal.returns-in_err-word-clause-reads
-returns-in_err-word-clause-reads c = exit c.from_residual.ensures (node_stopped _ _ _ c.inside.ensures (stop _ (stop _ ((moved c.in_err-word.ensures.reads)))))
+pub returns-in_err-expect_word-clause-reads : goal.returns-in_err-expect_word-clause-reads
+returns-in_err-expect_word-clause-reads c = exit c.from_residual.ensures (node_stopped _ _ c.begin-node.ensures.begun (stop _ (stop _ c.in_err-expect_word.ensures.reads)))
 
-pub returns-in_err-term-clause-reads : goal.returns-in_err-term-clause-reads
-returns-in_err-term-clause-reads c = exit c.from_residual-in_err-term.ensures (node_stopped _ _ _ c.inside.ensures (stop _ ((moved c.in_ok-word.ensures.reads) ▷ c.in_err-term.ensures.reads)))
+pub returns-in_err-parse_ident-clause-reads : goal.returns-in_err-parse_ident-clause-reads
+returns-in_err-parse_ident-clause-reads c = exit c.from_residual-in_err-parse_ident.ensures (node_stopped _ _ c.begin-node.ensures.begun (stop _ (c.in_ok-expect_word.ensures.reads ▷ c.in_err-parse_ident.ensures.reads)))
 
-pub returns-in_err-q-clause-reads : goal.returns-in_err-q-clause-reads
-returns-in_err-q-clause-reads c = exit c.from_residual-in_err-q.ensures (node_stopped _ _ _ c.inside.ensures ((moved c.in_ok-word.ensures.reads) ▷ c.in_ok-term.ensures.reads ▷ c.in_err-q.ensures.reads))
+pub returns-in_err-parse_ident-2-clause-reads : goal.returns-in_err-parse_ident-2-clause-reads
+returns-in_err-parse_ident-2-clause-reads c = exit c.from_residual-in_err-parse_ident-2.ensures (node_stopped _ _ c.begin-node.ensures.begun (c.in_ok-expect_word.ensures.reads ▷ c.in_ok-parse_ident.ensures.reads ▷ c.in_err-parse_ident-2.ensures.reads))
 
 pub returns-clause-reads : goal.returns-clause-reads
-returns-clause-reads c = node_read _ c.close_at.ensures c.inside.ensures ((moved c.in_ok-word.ensures.reads) ▷ c.in_ok-term.ensures.reads ▷ c.in_ok-q.ensures.reads)
+returns-clause-reads c = node_at _ c.begin-node.ensures.start c.begin-node.ensures.begun (c.in_ok-expect_word.ensures.reads ▷ c.in_ok-parse_ident.ensures.reads ▷ c.in_ok-parse_ident-2.ensures.reads) c.close_at.ensures

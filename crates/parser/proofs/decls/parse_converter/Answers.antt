@@ -1,24 +1,20 @@
-use Rattle.std.proofs.Common.{arith, sym, refl, ap, ◌∙◌, ◌+◌, []}
-use Rattle.tokens.specs.Token.{is_rparen}
-use Rattle.tokens.specs.Input.{peek, size}
-use Rattle.steps.specs.Met.{seen}
-use Rattle.steps.proofs.MetLaws.{◌▷◌, stop, moved, exit, node_read, node_stopped, flagged_read, flagged_stopped, bare_read, bare_stopped, nothing_read, next_yes, next_no, second_yes, second_no, leaf_read, bounded_within, within_less}
-use Rattle.steps.proofs.RowLaws.{plain_row}
+use Rattle.std.proofs.Common.{arith, sym, refl, ap, ◌∙◌, ◌+◌, ◌-◌}
+use Rattle.steps.proofs.ReadLaws.{◌▷◌, stop, exit, stepped, refused, unmoved, node_at, node_stopped, bare_read, bare_stopped, flagged_read, flagged_stopped, empty_node, nothing_read, next_yes, next_no, second_yes, second_no, bounded_went, plain_row}
 use Rattle.parser.specs.Defs.{parse_converter}
 use Rattle.parser.proofs.decls.parse_converter.Goals as goal
 
-pub returns-in_err-inner-clause-reads : goal.returns-in_err-inner-clause-reads
+pub returns-in_err-parse_ident-clause-reads : goal.returns-in_err-parse_ident-clause-reads
 unfolding parse_converter
-returns-in_err-inner-clause-reads c = exit c.from_residual.ensures (node_stopped _ _ _ c.inside.ensures (stop _ (stop _ (c.in_err-inner.ensures.reads))))
+returns-in_err-parse_ident-clause-reads c = exit c.from_residual.ensures (node_stopped _ _ c.begin-node.ensures.begun (stop _ (stop _ c.in_err-parse_ident.ensures.reads)))
 
-pub returns-in_err-outer-clause-reads : goal.returns-in_err-outer-clause-reads
+pub returns-in_err-parse_ident-2-clause-reads : goal.returns-in_err-parse_ident-2-clause-reads
 unfolding parse_converter
-returns-in_err-outer-clause-reads c = exit c.from_residual-in_err-outer.ensures (node_stopped _ _ _ c.inside.ensures (stop _ (c.in_ok-inner.ensures.reads ▷ c.in_err-outer.ensures.reads)))
+returns-in_err-parse_ident-2-clause-reads c = exit c.from_residual-in_err-parse_ident-2.ensures (node_stopped _ _ c.begin-node.ensures.begun (stop _ (c.in_ok-parse_ident.ensures.reads ▷ c.in_err-parse_ident-2.ensures.reads)))
 
-pub returns-in_err-q-clause-reads : goal.returns-in_err-q-clause-reads
+pub returns-in_err-parse_ident-3-clause-reads : goal.returns-in_err-parse_ident-3-clause-reads
 unfolding parse_converter
-returns-in_err-q-clause-reads c = exit c.from_residual-in_err-q.ensures (node_stopped _ _ _ c.inside.ensures (c.in_ok-inner.ensures.reads ▷ c.in_ok-outer.ensures.reads ▷ c.in_err-q.ensures.reads))
+returns-in_err-parse_ident-3-clause-reads c = exit c.from_residual-in_err-parse_ident-3.ensures (node_stopped _ _ c.begin-node.ensures.begun (c.in_ok-parse_ident.ensures.reads ▷ c.in_ok-parse_ident-2.ensures.reads ▷ c.in_err-parse_ident-3.ensures.reads))
 
 pub returns-clause-reads : goal.returns-clause-reads
 unfolding parse_converter
-returns-clause-reads c = node_read _ c.close_at.ensures c.inside.ensures (c.in_ok-inner.ensures.reads ▷ c.in_ok-outer.ensures.reads ▷ c.in_ok-q.ensures.reads)
+returns-clause-reads c = node_at _ c.begin-node.ensures.start c.begin-node.ensures.begun (c.in_ok-parse_ident.ensures.reads ▷ c.in_ok-parse_ident-2.ensures.reads ▷ c.in_ok-parse_ident-3.ensures.reads) c.close_at.ensures

@@ -1,17 +1,13 @@
-use Rattle.std.proofs.Common.{arith, sym, refl, ap, ◌∙◌, ◌+◌, []}
-use Rattle.tokens.specs.Token.{is_rparen}
-use Rattle.tokens.specs.Input.{peek, size}
-use Rattle.steps.specs.Met.{seen}
-use Rattle.steps.proofs.MetLaws.{◌▷◌, stop, moved, exit, node_read, node_stopped, flagged_read, flagged_stopped, bare_read, bare_stopped, nothing_read, next_yes, next_no, second_yes, second_no, leaf_read, bounded_within, within_less}
-use Rattle.steps.proofs.RowLaws.{plain_row}
-use Rattle.parser.specs.Defs.{parse_rule}
+use Rattle.std.proofs.Common.{arith, sym, refl, ap, ◌∙◌, ◌+◌, ◌-◌}
+use Rattle.steps.proofs.ReadLaws.{◌▷◌, stop, exit, stepped, refused, unmoved, node_at, node_stopped, bare_read, bare_stopped, flagged_read, flagged_stopped, empty_node, nothing_read, next_yes, next_no, second_yes, second_no, bounded_went, plain_row}
+use Rattle.parser.specs.Defs.{rule_flags, parse_rule}
 use Rattle.parser.proofs.RuleLaws.{parts_at}
 use Rattle.parser.proofs.rules.parse_rule.Goals as goal
 
-pub returns-in_err-q-clause-reads : goal.returns-in_err-q-clause-reads
+pub returns-in_err-rule_parts-clause-reads : goal.returns-in_err-rule_parts-clause-reads
 unfolding parse_rule
-returns-in_err-q-clause-reads c = exit c.from_residual.ensures (flagged_stopped _ _ _ c.inside.ensures (parts_at (seen c.args.s.now) _ c.args.p c.next_pos.ensures c.inside.ensures c.in_err-q.ensures.reads))
+returns-in_err-rule_parts-clause-reads c = exit c.from_residual.ensures (flagged_stopped _ rule_flags c.begin-node.ensures.begun (parts_at _ c.next_pos-place.ensures c.begin-node.ensures.begun c.in_err-rule_parts.ensures.reads))
 
 pub returns-clause-reads : goal.returns-clause-reads
 unfolding parse_rule
-returns-clause-reads c = flagged_read (seen c.args.s.now) _ c.close_at.ensures c.rule_flags-flags.ensures c.inside.ensures (parts_at (seen c.args.s.now) _ c.args.p c.next_pos.ensures c.inside.ensures c.in_ok-q.ensures.reads)
+returns-clause-reads c = flagged_read _ rule_flags c.rule_flags-flags.ensures c.begin-node.ensures.start c.begin-node.ensures.begun (parts_at _ c.next_pos-place.ensures c.begin-node.ensures.begun c.in_ok-rule_parts.ensures.reads) c.close_at.ensures

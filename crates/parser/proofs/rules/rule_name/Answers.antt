@@ -1,24 +1,20 @@
-use Rattle.std.proofs.Common.{arith, sym, refl, ap, ◌∙◌, ◌+◌, []}
-use Rattle.tokens.specs.Token.{is_rparen}
-use Rattle.tokens.specs.Input.{peek, size}
-use Rattle.steps.specs.Met.{seen}
-use Rattle.steps.proofs.MetLaws.{◌▷◌, stop, moved, exit, node_read, node_stopped, flagged_read, flagged_stopped, bare_read, bare_stopped, nothing_read, next_yes, next_no, second_yes, second_no, leaf_read, bounded_within, within_less}
-use Rattle.steps.proofs.RowLaws.{plain_row}
+use Rattle.std.proofs.Common.{arith, sym, refl, ap, ◌∙◌, ◌+◌, ◌-◌}
+use Rattle.steps.proofs.ReadLaws.{◌▷◌, stop, exit, stepped, refused, unmoved, node_at, node_stopped, bare_read, bare_stopped, flagged_read, flagged_stopped, empty_node, nothing_read, next_yes, next_no, second_yes, second_no, bounded_went, plain_row}
 use Rattle.parser.specs.Defs.{rule_name}
 use Rattle.parser.proofs.RuleLaws.{name-bounded}
 use Rattle.parser.proofs.rules.rule_name.Goals as goal
 
 pub returns-then-is_refused-clause-reads : goal.returns-then-is_refused-clause-reads
 unfolding rule_name
-returns-then-is_refused-clause-reads c = next_yes _ _ _ c.next_token.ensures c.is_symbol.ensures c.if-is_symbol.true (second_yes _ _ _ c.second_token.ensures c.is_refused.ensures c.if-is_refused.true (moved c.refuse_after.ensures))
+returns-then-is_refused-clause-reads c = next_yes _ _ c.next_token.ensures c.is_symbol.ensures c.if-is_symbol.true (second_yes _ _ c.second_token.ensures c.is_refused.ensures c.if-is_refused.true c.refuse_after.ensures)
 
 pub returns-then-is_refused-clause-within : goal.returns-then-is_refused-clause-within
-returns-then-is_refused-clause-within c = bounded_within (name-bounded (seen c.args.s.now)) (returns-then-is_refused-clause-reads c)
+returns-then-is_refused-clause-within c = bounded_went 0 0 0 name-bounded (returns-then-is_refused-clause-reads c)
 
 pub returns-then-is_symbol-clause-reads : goal.returns-then-is_symbol-clause-reads
 unfolding rule_name
-returns-then-is_symbol-clause-reads c = next_yes _ _ _ c.next_token.ensures c.is_symbol.ensures c.if-is_symbol.true (second_no _ _ _ c.second_token.ensures c.is_refused.ensures c.if-is_refused.false c.parse_name_or.ensures.reads)
+returns-then-is_symbol-clause-reads c = next_yes _ _ c.next_token.ensures c.is_symbol.ensures c.if-is_symbol.true (second_no _ _ c.second_token.ensures c.is_refused.ensures c.if-is_refused.false c.parse_name_or.ensures.reads)
 
 pub returns-clause-reads : goal.returns-clause-reads
 unfolding rule_name
-returns-clause-reads c = next_no _ _ _ c.next_token.ensures c.is_symbol.ensures c.if-is_symbol.false (nothing_read _ _)
+returns-clause-reads c = next_no _ _ c.next_token.ensures c.is_symbol.ensures c.if-is_symbol.false (nothing_read)

@@ -1,24 +1,20 @@
-use Rattle.std.proofs.Common.{arith, sym, refl, ap, ◌∙◌, ◌+◌, []}
-use Rattle.tokens.specs.Token.{is_rparen}
-use Rattle.tokens.specs.Input.{peek, size}
-use Rattle.steps.specs.Met.{seen}
-use Rattle.steps.proofs.MetLaws.{◌▷◌, stop, moved, exit, node_read, node_stopped, flagged_read, flagged_stopped, bare_read, bare_stopped, nothing_read, next_yes, next_no, second_yes, second_no, leaf_read, bounded_within, within_less}
-use Rattle.steps.proofs.RowLaws.{plain_row}
+use Rattle.std.proofs.Common.{arith, sym, refl, ap, ◌∙◌, ◌+◌, ◌-◌}
+use Rattle.steps.proofs.ReadLaws.{◌▷◌, stop, exit, stepped, refused, unmoved, node_at, node_stopped, bare_read, bare_stopped, flagged_read, flagged_stopped, empty_node, nothing_read, next_yes, next_no, second_yes, second_no, bounded_went, plain_row}
 use Rattle.parser.specs.Defs.{rule_parts}
 use Rattle.parser.proofs.rules.rule_parts.Goals as goal
 
-pub returns-in_err-head-clause-reads : goal.returns-in_err-head-clause-reads
+pub returns-in_err-rule_head-clause-reads : goal.returns-in_err-rule_head-clause-reads
 unfolding rule_parts
-returns-in_err-head-clause-reads c = exit c.from_residual.ensures (stop _ (stop _ (stop _ (c.in_err-head.ensures.reads))))
+returns-in_err-rule_head-clause-reads c = exit c.from_residual.ensures (stop _ (stop _ (stop _ c.in_err-rule_head.ensures.reads)))
 
-pub returns-in_err-pattern-clause-reads : goal.returns-in_err-pattern-clause-reads
+pub returns-in_err-parse_pattern-clause-reads : goal.returns-in_err-parse_pattern-clause-reads
 unfolding rule_parts
-returns-in_err-pattern-clause-reads c = exit c.from_residual-in_err-pattern.ensures (stop _ (stop _ (c.in_ok-head.ensures.reads ▷ c.in_err-pattern.ensures.reads)))
+returns-in_err-parse_pattern-clause-reads c = exit c.from_residual-in_err-parse_pattern.ensures (stop _ (stop _ (c.in_ok-rule_head.ensures.reads ▷ c.in_err-parse_pattern.ensures.reads)))
 
-pub returns-in_err-iflets-clause-reads : goal.returns-in_err-iflets-clause-reads
+pub returns-in_err-parse_iflets-clause-reads : goal.returns-in_err-parse_iflets-clause-reads
 unfolding rule_parts
-returns-in_err-iflets-clause-reads c = exit c.from_residual-in_err-iflets.ensures (stop _ (c.in_ok-head.ensures.reads ▷ c.in_ok-pattern.ensures.reads ▷ c.in_err-iflets.ensures.reads))
+returns-in_err-parse_iflets-clause-reads c = exit c.from_residual-in_err-parse_iflets.ensures (stop _ (c.in_ok-rule_head.ensures.reads ▷ c.in_ok-parse_pattern.ensures.reads ▷ c.in_err-parse_iflets.ensures.reads))
 
 pub returns-clause-reads : goal.returns-clause-reads
 unfolding rule_parts
-returns-clause-reads c = c.in_ok-head.ensures.reads ▷ c.in_ok-pattern.ensures.reads ▷ c.in_ok-iflets.ensures.reads ▷ c.parse_iflet_or_expr.ensures.reads
+returns-clause-reads c = c.in_ok-rule_head.ensures.reads ▷ c.in_ok-parse_pattern.ensures.reads ▷ c.in_ok-parse_iflets.ensures.reads ▷ c.parse_iflet_or_expr.ensures.reads

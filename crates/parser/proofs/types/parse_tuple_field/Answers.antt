@@ -1,14 +1,10 @@
-use Rattle.std.proofs.Common.{arith, sym, refl, ap, ◌∙◌, ◌+◌, []}
-use Rattle.tokens.specs.Token.{is_rparen}
-use Rattle.tokens.specs.Input.{peek, size}
-use Rattle.steps.specs.Met.{seen}
-use Rattle.steps.proofs.MetLaws.{◌▷◌, stop, moved, exit, node_read, node_stopped, flagged_read, flagged_stopped, bare_read, bare_stopped, nothing_read, next_yes, next_no, second_yes, second_no, leaf_read, bounded_within, within_less}
-use Rattle.steps.proofs.RowLaws.{plain_row}
+use Rattle.std.proofs.Common.{arith, sym, refl, ap, ◌∙◌, ◌+◌, ◌-◌}
+use Rattle.steps.proofs.ReadLaws.{◌▷◌, stop, exit, stepped, refused, unmoved, node_at, node_stopped, bare_read, bare_stopped, flagged_read, flagged_stopped, empty_node, nothing_read, next_yes, next_no, second_yes, second_no, bounded_went, plain_row}
 use Rattle.parser.proofs.TypeLaws.{tuple_field_read, tuple_field_stopped}
 use Rattle.parser.proofs.types.parse_tuple_field.Goals as goal
 
-pub returns-in_err-q-clause-reads : goal.returns-in_err-q-clause-reads
-returns-in_err-q-clause-reads c = exit c.from_residual.ensures (tuple_field_stopped (seen c.args.s.now) _ _ c.inside.ensures c.in_err-q.ensures.reads)
+pub returns-in_err-parse_ident-clause-reads : goal.returns-in_err-parse_ident-clause-reads
+returns-in_err-parse_ident-clause-reads c = exit c.from_residual.ensures (tuple_field_stopped c.begin-node.ensures.begun c.in_err-parse_ident.ensures.reads)
 
 pub returns-clause-reads : goal.returns-clause-reads
-returns-clause-reads c = tuple_field_read (seen c.args.s.now) _ _ c.inside.ensures c.next_pos.ensures c.in_ok-q.ensures.reads c.close.ensures
+returns-clause-reads c = tuple_field_read c.begin-node.ensures.begun c.begin-node.ensures.start c.pos_at.ensures c.in_ok-parse_ident.ensures.reads (rw c.plain.ensures at c.close.ensures)

@@ -1,17 +1,15 @@
-use Rattle.std.proofs.Common.{arith, sym, refl, ap, ◌∙◌, ◌+◌, []}
+use Rattle.std.proofs.Common.{arith, sym, refl, ap, ◌∙◌, ◌+◌, ◌-◌}
 use Rattle.tokens.specs.Token.{is_rparen}
-use Rattle.tokens.specs.Input.{peek, size}
-use Rattle.steps.specs.Met.{seen}
-use Rattle.steps.proofs.MetLaws.{◌▷◌, stop, moved, exit, node_read, node_stopped, flagged_read, flagged_stopped, bare_read, bare_stopped, nothing_read, next_yes, next_no, second_yes, second_no, leaf_read, bounded_within, within_less}
-use Rattle.steps.proofs.RowLaws.{plain_row}
-use Rattle.parser.specs.Types.{parse_tuple_fields}
+use Rattle.tokens.specs.Input.{peek}
+use Rattle.steps.proofs.ReadLaws.{◌▷◌, stop, exit, stepped, refused, unmoved, node_at, node_stopped, bare_read, bare_stopped, flagged_read, flagged_stopped, empty_node, nothing_read, next_yes, next_no, second_yes, second_no, bounded_went, plain_row}
+use Rattle.parser.specs.Types.{parse_tuple_field, parse_tuple_fields}
 use Rattle.parser.proofs.TypeLaws.{tuple_row}
 use Rattle.parser.proofs.types.parse_tuple_fields.Goals as goal
 
-pub returns-in_err-q-clause-reads : goal.returns-in_err-q-clause-reads
+pub returns-in_err-parse_row-clause-reads : goal.returns-in_err-parse_row-clause-reads
 unfolding parse_tuple_fields
-returns-in_err-q-clause-reads c = exit c.from_residual.ensures (node_stopped _ _ _ c.inside.ensures ((tuple_row (seen c.args.s.now) c.args.p _ c.inside.ensures _ _ c.in_err-q.ensures.reads)))
+returns-in_err-parse_row-clause-reads c = exit c.from_residual.ensures (node_stopped _ _ c.begin-node.ensures.begun (tuple_row (λ s i. is_rparen (peek s i)) parse_tuple_field c.begin-node.ensures.begun c.in_err-parse_row.ensures.reads))
 
 pub returns-clause-reads : goal.returns-clause-reads
 unfolding parse_tuple_fields
-returns-clause-reads c = node_read _ c.close_at.ensures c.inside.ensures ((tuple_row (seen c.args.s.now) c.args.p _ c.inside.ensures _ _ c.in_ok-q.ensures.reads))
+returns-clause-reads c = node_at _ c.begin-node.ensures.start c.begin-node.ensures.begun (tuple_row (λ s i. is_rparen (peek s i)) parse_tuple_field c.begin-node.ensures.begun c.in_ok-parse_row.ensures.reads) c.close_at.ensures

@@ -1,25 +1,23 @@
-use Rattle.std.proofs.Common.{arith, sym, refl, ap, ◌∙◌, ◌+◌, []}
-use Rattle.tokens.specs.Token.{is_rparen}
-use Rattle.tokens.specs.Input.{peek, size}
-use Rattle.steps.specs.Met.{seen}
-use Rattle.steps.proofs.MetLaws.{◌▷◌, stop, moved, exit, node_read, node_stopped, flagged_read, flagged_stopped, bare_read, bare_stopped, nothing_read, next_yes, next_no, second_yes, second_no, leaf_read, bounded_within, within_less}
-use Rattle.steps.proofs.RowLaws.{plain_row}
-use Rattle.parser.specs.Types.{parse_type, modifier_flags}
-use Rattle.steps.proofs.NameLaws.{ident_next}
+use Rattle.std.proofs.Common.{arith, sym, refl, ap, ◌∙◌, ◌+◌, ◌-◌}
+use Rattle.tokens.specs.Input.{size}
+use Rattle.steps.proofs.ReadLaws.{◌▷◌, stop, exit, stepped, refused, unmoved, node_at, node_stopped, bare_read, bare_stopped, flagged_read, flagged_stopped, empty_node, nothing_read, next_yes, next_no, second_yes, second_no, bounded_went, plain_row}
+use Rattle.parser.specs.Types.{modifier_flags, parse_type}
+use Rattle.parser.proofs.ModifierLaws.{modifiers_then}
+use Rattle.parser.proofs.DeclLaws.{flags_behind}
 use Rattle.parser.proofs.types.parse_type.Goals as goal
 
-pub returns-in_err-name-clause-reads : goal.returns-in_err-name-clause-reads
+pub returns-in_err-parse_ident-clause-reads : goal.returns-in_err-parse_ident-clause-reads
 unfolding parse_type
-returns-in_err-name-clause-reads c = exit c.from_residual.ensures (flagged_stopped _ _ _ c.inside.ensures (stop _ (stop _ (c.in_err-name.ensures.reads))))
+returns-in_err-parse_ident-clause-reads c = exit c.from_residual.ensures (flagged_stopped _ (λ s i. modifier_flags s (size s) 0 0 (i + 1)) c.begin-node.ensures.begun (stop _ (stop _ c.in_err-parse_ident.ensures.reads)))
 
-pub returns-in_err-after-clause-reads : goal.returns-in_err-after-clause-reads
+pub returns-in_err-no_modifier-clause-reads : goal.returns-in_err-no_modifier-clause-reads
 unfolding parse_type
-returns-in_err-after-clause-reads c = exit c.from_residual-in_err-after.ensures (flagged_stopped _ _ _ c.inside.ensures (stop _ (c.in_ok-name.ensures.reads ▷ (moved c.in_err-after.ensures.reads))))
+returns-in_err-no_modifier-clause-reads c = exit c.from_residual-in_err-no_modifier.ensures (flagged_stopped _ (λ s i. modifier_flags s (size s) 0 0 (i + 1)) c.begin-node.ensures.begun (stop _ (c.in_ok-parse_ident.ensures.reads ▷ modifiers_then c.pass_modifiers-flags.ensures c.in_err-no_modifier.ensures)))
 
-pub returns-in_err-q-clause-reads : goal.returns-in_err-q-clause-reads
+pub returns-in_err-parse_typevalue-clause-reads : goal.returns-in_err-parse_typevalue-clause-reads
 unfolding parse_type
-returns-in_err-q-clause-reads c = exit c.from_residual-in_err-q.ensures (flagged_stopped _ _ _ c.inside.ensures (c.in_ok-name.ensures.reads ▷ (moved c.in_ok-after.ensures.reads) ▷ c.in_err-q.ensures.reads))
+returns-in_err-parse_typevalue-clause-reads c = exit c.from_residual-in_err-parse_typevalue.ensures (flagged_stopped _ (λ s i. modifier_flags s (size s) 0 0 (i + 1)) c.begin-node.ensures.begun (c.in_ok-parse_ident.ensures.reads ▷ modifiers_then c.pass_modifiers-flags.ensures c.in_ok-no_modifier.ensures ▷ c.in_err-parse_typevalue.ensures.reads))
 
 pub returns-clause-reads : goal.returns-clause-reads
 unfolding parse_type
-returns-clause-reads c = flagged_read (seen c.args.s.now) _ c.close_at.ensures (c.modifiers_from-m.ensures.flags ∙ ap (modifier_flags (seen c.args.s.now) (size (seen c.args.s.now)) 0 0) (ident_next (seen c.args.s.now) c.in_ok-name.ensures.reads ∙ ap (λ x. x.next + 1) c.inside.ensures)) c.inside.ensures (c.in_ok-name.ensures.reads ▷ (moved c.in_ok-after.ensures.reads) ▷ c.in_ok-q.ensures.reads)
+returns-clause-reads c = flagged_read _ (λ s i. modifier_flags s (size s) 0 0 (i + 1)) (flags_behind (λ s. modifier_flags s (size s) 0 0) c.begin-node.ensures.begun c.in_ok-parse_ident.ensures.reads c.pass_modifiers-flags.ensures.flags) c.begin-node.ensures.start c.begin-node.ensures.begun (c.in_ok-parse_ident.ensures.reads ▷ modifiers_then c.pass_modifiers-flags.ensures c.in_ok-no_modifier.ensures ▷ c.in_ok-parse_typevalue.ensures.reads) c.close_at.ensures

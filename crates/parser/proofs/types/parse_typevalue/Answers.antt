@@ -1,28 +1,25 @@
-use Rattle.std.proofs.Common.{arith, sym, refl, ap, ◌∙◌, ◌+◌, []}
-use Rattle.tokens.specs.Token.{is_rparen}
-use Rattle.tokens.specs.Input.{peek, size}
-use Rattle.steps.specs.Met.{seen}
-use Rattle.steps.proofs.MetLaws.{◌▷◌, stop, moved, exit, node_read, node_stopped, flagged_read, flagged_stopped, bare_read, bare_stopped, nothing_read, next_yes, next_no, second_yes, second_no, leaf_read, bounded_within, within_less}
-use Rattle.steps.proofs.RowLaws.{plain_row}
+use Rattle.std.proofs.Common.{arith, sym, refl, ap, ◌∙◌, ◌+◌, ◌-◌}
+use Rattle.steps.proofs.ReadLaws.{bounded_on}
+use Rattle.steps.proofs.ReadLaws.{◌▷◌, stop, exit, stepped, refused, unmoved, node_at, node_stopped, bare_read, bare_stopped, flagged_read, flagged_stopped, empty_node, nothing_read, next_yes, next_no, second_yes, second_no, bounded_went, plain_row}
 use Rattle.parser.specs.Types.{parse_typevalue}
 use Rattle.parser.proofs.TypeLaws.{typevalue_bounded}
 use Rattle.parser.proofs.types.parse_typevalue.Goals as goal
 
 pub returns-then-is_word-clause-reads : goal.returns-then-is_word-clause-reads
 unfolding parse_typevalue
-returns-then-is_word-clause-reads c = second_yes _ _ _ c.second_token-u.ensures c.is_word.ensures c.if-is_word.true (c.value_primitive.ensures.reads)
+returns-then-is_word-clause-reads c = second_yes _ _ c.second_token-u.ensures c.is_word.ensures c.if-is_word.true (c.value.ensures.reads)
 
 pub returns-then-is_word-2-clause-reads : goal.returns-then-is_word-2-clause-reads
 unfolding parse_typevalue
-returns-then-is_word-2-clause-reads c = second_no _ _ _ c.second_token-u.ensures c.is_word.ensures c.if-is_word.false (second_yes _ _ _ c.second_token-u.ensures c.is_word-2.ensures c.if-is_word-2.true (c.value_enum.ensures.reads))
+returns-then-is_word-2-clause-reads c = second_no _ _ c.second_token-u.ensures c.is_word.ensures c.if-is_word.false (second_yes _ _ c.second_token-u.ensures c.is_word-2.ensures c.if-is_word-2.true (c.value-then-is_word-2.ensures.reads))
 
 pub returns-then-is_word-3-clause-reads : goal.returns-then-is_word-3-clause-reads
 unfolding parse_typevalue
-returns-then-is_word-3-clause-reads c = second_no _ _ _ c.second_token-u.ensures c.is_word.ensures c.if-is_word.false (second_no _ _ _ c.second_token-u.ensures c.is_word-2.ensures c.if-is_word-2.false (second_yes _ _ _ c.second_token-u.ensures c.is_word-3.ensures c.if-is_word-3.true (c.value_struct.ensures.reads)))
+returns-then-is_word-3-clause-reads c = second_no _ _ c.second_token-u.ensures c.is_word.ensures c.if-is_word.false (second_no _ _ c.second_token-u.ensures c.is_word-2.ensures c.if-is_word-2.false (second_yes _ _ c.second_token-u.ensures c.is_word-3.ensures c.if-is_word-3.true (c.value-then-is_word-3.ensures.reads)))
 
 pub returns-clause-reads : goal.returns-clause-reads
 unfolding parse_typevalue
-returns-clause-reads c = second_no _ _ _ c.second_token-u.ensures c.is_word.ensures c.if-is_word.false (second_no _ _ _ c.second_token-u.ensures c.is_word-2.ensures c.if-is_word-2.false (second_no _ _ _ c.second_token-u.ensures c.is_word-3.ensures c.if-is_word-3.false (moved c.refuse_after.ensures)))
+returns-clause-reads c = second_no _ _ c.second_token-u.ensures c.is_word.ensures c.if-is_word.false (second_no _ _ c.second_token-u.ensures c.is_word-2.ensures c.if-is_word-2.false (second_no _ _ c.second_token-u.ensures c.is_word-3.ensures c.if-is_word-3.false c.refuse_after.ensures))
 
 pub returns-clause-within : goal.returns-clause-within
-returns-clause-within c = within_less 1 1 0 1 0 0 _ _ _ (omega arith) (omega arith) (bounded_within (typevalue_bounded (seen c.args.s.now)) (returns-clause-reads c))
+returns-clause-within c = bounded_on typevalue_bounded (returns-clause-reads c)

@@ -1,0 +1,9 @@
+use Rattle.std.proofs.Common.{arith, sym, refl, ap, ◌∙◌, ◌+◌, ◌-◌}
+use Rattle.steps.proofs.ReadLaws.{◌▷◌, stop, exit, stepped, refused, unmoved, node_at, node_stopped, bare_read, bare_stopped, flagged_read, flagged_stopped, empty_node, nothing_read, next_yes, next_no, second_yes, second_no, bounded_went, plain_row}
+use Rattle.parser.proofs.attrs.TagPart.parse.Goals as goal
+
+pub returns-in_err-parse_ident-clause-reads : goal.returns-in_err-parse_ident-clause-reads
+returns-in_err-parse_ident-clause-reads c = exit c.from_residual.ensures (bare_stopped _ c.begin-node.ensures.begun c.in_err-parse_ident.ensures.reads)
+
+pub returns-clause-reads : goal.returns-clause-reads
+returns-clause-reads c = bare_read _ c.begin-node.ensures.start c.begin-node.ensures.begun c.in_ok-parse_ident.ensures.reads c.close_bare.ensures

@@ -1,0 +1,9 @@
+use Rattle.std.proofs.Common.{arith, sym, refl, ap, ◌∙◌, ◌+◌, ◌-◌}
+use Rattle.tokens.specs.Token.{is_rparen}
+use Rattle.tokens.specs.Input.{peek}
+use Rattle.steps.proofs.ReadLaws.{◌▷◌, stop, exit, stepped, refused, unmoved, node_at, node_stopped, bare_read, bare_stopped, flagged_read, flagged_stopped, empty_node, nothing_read, next_yes, next_no, second_yes, second_no, bounded_went, plain_row}
+use Rattle.parser.specs.Types.{parse_type_variant}
+use Rattle.parser.proofs.types.EnumPart.parse.Goals as goal
+
+pub returns-clause-reads : goal.returns-clause-reads
+returns-clause-reads c = plain_row (λ s i. is_rparen (peek s i)) parse_type_variant c.parse_row.ensures.reads

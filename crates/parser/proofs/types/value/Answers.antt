@@ -1,0 +1,9 @@
+use Rattle.std.proofs.Common.{arith, sym, refl, ap, ◌∙◌, ◌+◌, ◌-◌}
+use Rattle.steps.proofs.ReadLaws.{◌▷◌, stop, exit, stepped, refused, unmoved, node_at, node_stopped, bare_read, bare_stopped, flagged_read, flagged_stopped, empty_node, nothing_read, next_yes, next_no, second_yes, second_no, bounded_went, plain_row}
+use Rattle.parser.proofs.types.value.Goals as goal
+
+pub returns-in_err-parse_worded-clause-reads : goal.returns-in_err-parse_worded-clause-reads
+returns-in_err-parse_worded-clause-reads g c = exit c.from_residual.ensures (node_stopped _ _ c.begin-node.ensures.begun c.in_err-parse_worded.ensures.reads)
+
+pub returns-clause-reads : goal.returns-clause-reads
+returns-clause-reads g c = node_at _ c.begin-node.ensures.start c.begin-node.ensures.begun c.in_ok-parse_worded.ensures.reads c.close_at.ensures
