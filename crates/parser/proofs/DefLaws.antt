@@ -13,12 +13,14 @@ use Rattle.tokens.specs.Input.{Input, input, peek, size}
 use Rattle.steps.specs.Keywords.{word_pragma, word_type, word_decl, word_attr, word-rule, word-extractor, word_extern, word_convert, word_spec, word_macro, word_state, word_model, word_form, word_instantiate, word_veri, word_tag, word_chain, word-priority}
 use Rattle.steps.specs.Outcome.{Reader, ◌⊳◌, bare, refuse_after, if_next, if_second, row, expect-lparen, expect-rparen, expect-word, ate, eat, parse_ident}
 use Rattle.std.specs.Prelude.{Result, Ok, Err}
+use Rattle.std.specs.Result.{IsErr, IsErrAnd}
+use Rattle.std.proofs.lemmas.Result.{err_from_is_err_and}
 use Rattle.steps.specs.declared.Parser.{Parser}
 use Rattle.steps.specs.declared.State.{State}
 use Rattle.steps.specs.declared.Stop.{Stop}
 use Rattle.steps.specs.Sizes.{Bounded}
-use Rattle.steps.specs.Met.{Chained}
-use Rattle.steps.specs.Read.{read_by, Read}
+use Rattle.steps.specs.Met.{Met, Chained}
+use Rattle.steps.specs.Read.{read_by, came_to, Read}
 use Rattle.steps.proofs.MetLaws.{second_yes, second_no}
 use Rattle.steps.proofs.SizeLaws.{Steady, Item, steady, item, less_bounded, then_bounded, bare-bounded, flagged-bounded, next-bounded, second-bounded, after-bounded, eat_steady, lparen-bounded, rparen-bounded, word-bounded, ident-bounded, pragma_bounded}
 use Rattle.steps.proofs.RowLaws.{row_steady}
@@ -140,3 +142,13 @@ other_met s u x {p = p} {l = l} {l' = l'} {r = r} a e m = go (is_uncovered s.tex
 
 pub other_read : (u : Token) (x : ℕ) {p p' : Parser} {r : Result (Unit {0}) Stop} → u ≡ peek (read_by p) (p.state.next + 1) → x ≡ pick (is_uncovered p.source.text.now u) 27 12 → Read (λ s. expect-lparen s ⊳ refuse_after s 3 x) p p' r → Read other_def p p' r
 other_read u x {p = p} a e m = record { read = other_met (read_by p) u x a e m.read; same = m.same }
+
+-- ---- all definitions, by a parser made for them
+
+pub parsed : {p p' : Parser} {u : Unit {0}} {x : List ℕ} → Read parse_defs p p' (Ok u) → x ≡ p'.out.now → Met (parse_defs (read_by p) p.state.next) p.state.count p.state.items p.out.now x (Ok p'.state)
+unfolding came_to
+parsed m e = rw e m.read.met
+
+pub parse_stopped : (r : Result State Stop) {p p' : Parser} {d : Stop} {x : List ℕ} → IsErr r × IsErrAnd r (λ e. e ≡ d) → Read parse_defs p p' (Err d) → x ≡ p'.out.now → Met (parse_defs (read_by p) p.state.next) p.state.count p.state.items p.out.now x r
+unfolding came_to
+parse_stopped r h m e = let k = err_from_is_err_and r h.1 in rw (k.1, k.2, e) m.read.met

@@ -5,11 +5,11 @@ use mathlib.Core.Path.{◌≡◌, refl, ap, ◌∙◌}
 use mathlib.Core.List.{List, ◌++◌}
 use mathlib.Core.Bool.{Bool, true, false}
 use lib.ListN.{length, take, replicate}
-use lib.Dec.{leb}
+use lib.Dec.{leb, ltb, eqb}
 use mir.Syntax.{w32}
 use mir.Val.{Fits}
 use borrow.Author.Tests.{lt-ltb, le-ltb, le-leb, lt-leb, eq-eqb, ne_eqb, leb-true}
-use Rattle.trees.specs.Choice.{pick}
+use Rattle.trees.specs.Choice.{pick, choose}
 use Rattle.trees.specs.Tree.{Trees, records_all}
 use Rattle.records.specs.Slots.{slots, writes}
 use Rattle.records.specs.Result.{accepted, refused}
@@ -18,16 +18,17 @@ use Rattle.tokens.specs.Token.{token_count}
 use Rattle.tokens.specs.Lent.{first_bad}
 use Rattle.tokens.specs.Input.{Input, input, size}
 use Rattle.std.specs.Prelude.{Result, Ok, Err}
-use Rattle.std.specs.Result.{IfOk}
-use Rattle.std.proofs.lemmas.Result.{IfOk-at_ok}
+use Rattle.std.specs.Result.{IfOk, IsErr, IsErrAnd}
+use Rattle.std.proofs.lemmas.Result.{err_from_is_err_and}
 use Rattle.records.specs.Grounds.{number as ground_number}
 use Rattle.steps.specs.declared.State.{State}
 use Rattle.steps.specs.declared.Stop.{Stop}
-use Rattle.steps.specs.Outcome.{Outcome, accept, refuse}
-use Rattle.steps.specs.Met.{state, number_of, Met, Chained, Ready, Within}
+use Rattle.steps.specs.Outcome.{Outcome, accept, refuse, refusal}
+use Rattle.steps.specs.Met.{told, state, number_of, Met, Chained, Ready, Within}
 use Rattle.parser.specs.Defs.{parse_defs}
 use Rattle.parser.specs.Reading.{done, stopped, fitted, judged, reading, number, bytes}
 use Rattle.reading.specs.Answered.{Answered, cleared, Finished, Countable}
+use Rattle.reading.specs.Checked.{unread, parse_good, parse_checked, Passed, Checked}
 
 pub stops : (code place r : ℕ) (l l' : List ℕ) → l' ≡ replicate (length l) 0 → r ≡ refused code place → Answered (stopped code place) (length l) l' r
 unfolding number bytes
@@ -84,9 +85,6 @@ met_finished (accept ts x) (Err e) r l l₁ l₂ h z t = absurd h
 met_finished (refuse d) (Ok q) r l l₁ l₂ h z t = absurd h
 met_finished (refuse d) (Err e) r l l₁ l₂ h z t = rw (← h, ← z) (record { returns = t.returns; output = t.output })
 
-pub good_finished : (s : Input) (p : Result State Stop) (r : ℕ) (l l₁ l₂ : List ℕ) → Chained (parse_defs s) (state 0 0 0) l l₁ p → length l₁ ≡ length l → Finished p l₁ l₂ r → Answered (fitted (slots l) (parse_defs s 0)) (length l) l₂ r
-good_finished s p r l l₁ l₂ h z t = met_finished (parse_defs s 0) p r l l₁ l₂ h.met z t
-
 pub good_countable : (s : Input) (p : Result State Stop) → size s ≤ 16385 → IfOk p (Within 0 0 0 s (state 0 0 0)) → Countable p
 unfolding Countable
 good_countable s (Ok q) a w = omega (arith, a, w.inside (omega arith), w.room)
@@ -94,26 +92,67 @@ good_countable s (Err d) a w = tt
 
 -- ---- the checks
 
-module _ (tokens text : List ℕ) (end n r : ℕ) (space : ℕ) (l' : List ℕ) where
-  pub too_many : 16384 < length tokens / 24 → Answered (stopped 7 0) n l' r → Answered (reading (input tokens text end) space) n l' r
-  unfolding reading
-  too_many h a = rw (lt-ltb 16384 (length tokens / 24) h) a
+module _ (s : Input) (d : Stop) where
+  pub too_many : 16384 < size s → told d ≡ refusal 7 0 0 → Checked s (Err d)
+  unfolding Checked parse_checked
+  too_many h e = rw (lt-ltb 16384 (size s) h, e) refl
 
-  pub too_long : length tokens / 24 ≤ 16384 → 65536 < length text → Answered (stopped 7 0) n l' r → Answered (reading (input tokens text end) space) n l' r
-  unfolding reading
-  too_long h k a = rw (le-ltb 16384 (length tokens / 24) h, lt-ltb 65536 (length text) k) a
+  pub too_long : size s ≤ 16384 → 65536 < length s.text → told d ≡ refusal 7 0 0 → Checked s (Err d)
+  unfolding Checked parse_checked
+  too_long h k e = rw (le-ltb 16384 (size s) h, lt-ltb 65536 (length s.text) k, e) refl
 
-  pub cut_short : length tokens / 24 ≤ 16384 → length text ≤ 65536 → (length tokens % 24 ≡ 0 → ⊥) → Answered (stopped 1 0) n l' r → Answered (reading (input tokens text end) space) n l' r
-  unfolding reading
-  cut_short h k e a = rw (le-ltb 16384 (length tokens / 24) h, le-ltb 65536 (length text) k, ne_eqb (length tokens % 24) 0 e) a
+  pub cut_short : size s ≤ 16384 → length s.text ≤ 65536 → (length s.tokens % 24 ≡ 0 → ⊥) → told d ≡ refusal 1 0 0 → Checked s (Err d)
+  unfolding Checked parse_checked
+  cut_short h k n e = rw (le-ltb 16384 (size s) h, le-ltb 65536 (length s.text) k, ne_eqb (length s.tokens % 24) 0 n, e) refl
 
-  pub bad-token : (b : ℕ) → length tokens / 24 ≤ 16384 → length text ≤ 65536 → length tokens % 24 ≡ 0 → b ≡ first_bad tokens text end → b < length tokens / 24 → Answered (stopped 2 b) n l' r → Answered (reading (input tokens text end) space) n l' r
-  unfolding reading judged
-  bad-token b h k e f g a = rw (le-ltb 16384 (length tokens / 24) h, le-ltb 65536 (length text) k, eq-eqb (length tokens % 24) 0 e, ← f, lt-ltb b (length tokens / 24) g) a
+  pub bad-token : (b : ℕ) → size s ≤ 16384 → length s.text ≤ 65536 → length s.tokens % 24 ≡ 0 → b ≡ first_bad s.tokens s.text s.end → b < size s → told d ≡ refusal 2 b 0 → Checked s (Err d)
+  unfolding Checked parse_checked parse_good
+  bad-token b h k n f g e = rw (le-ltb 16384 (size s) h, le-ltb 65536 (length s.text) k, eq-eqb (length s.tokens % 24) 0 n, ← f, lt-ltb b (size s) g, e) refl
 
-  pub all-good : (b : ℕ) → length tokens / 24 ≤ 16384 → length text ≤ 65536 → length tokens % 24 ≡ 0 → b ≡ first_bad tokens text end → length tokens / 24 ≤ b → Answered (fitted space (parse_defs (input tokens text end) 0)) n l' r → Answered (reading (input tokens text end) space) n l' r
-  unfolding reading judged
-  all-good b h k e f g a = rw (le-ltb 16384 (length tokens / 24) h, le-ltb 65536 (length text) k, eq-eqb (length tokens % 24) 0 e, ← f, le-ltb b (length tokens / 24) g) a
+pub all-good : (s : Input) → size s ≤ 16384 → length s.text ≤ 65536 → length s.tokens % 24 ≡ 0 → size s ≡ first_bad s.tokens s.text s.end → Checked s (Ok tt)
+unfolding Checked parse_checked parse_good
+all-good s h k n f =
+    record { few = h; short = k; reads = rw (le-ltb 16384 (size s) h, le-ltb 65536 (length s.text) k, eq-eqb (length s.tokens % 24) 0 n, ← f, le-ltb (size s) (size s) (omega arith)) refl }
+
+-- ---- after the checks
+
+module _ (p : Result State Stop) (d : Stop) (h : IsErr p × IsErrAnd p (λ e. e ≡ d)) where
+  pub unchecked_met : (s : Input) (l : List ℕ) → Checked s (Err d) → Met (parse_checked s) 0 0 l l p
+  unfolding Checked Met
+  unchecked_met s l c = let e = err_from_is_err_and p h.1 in rw (c, e.1, e.2) refl
+
+  pub unchecked_countable : Countable p
+  unfolding Countable
+  unchecked_countable = let e = err_from_is_err_and p h.1 in rw e.1 tt
+
+module _ (s : Input) (c : Checked s (Ok tt)) where
+  passed_all : Passed s
+  unfolding Checked
+  passed_all = c
+
+  pub checked_ready : Ready 4 s (state 0 0 0)
+  checked_ready = begins s (omega (arith, passed_all.few)) passed_all.short
+
+  pub checked_met : (p : Result State Stop) (l l₁ : List ℕ) → Chained (parse_defs s) (state 0 0 0) l l₁ p → Met (parse_checked s) 0 0 l l₁ p
+  checked_met p l l₁ h = rw passed_all.reads h.met
+
+  pub checked_countable : (p : Result State Stop) → IfOk p (Within 0 0 0 s (state 0 0 0)) → Countable p
+  checked_countable p w = good_countable s p (omega (arith, passed_all.few)) w
+
+-- what is answered, by the space
+fitted_checked : (s : Input) (space : ℕ) → fitted space (parse_checked s) ≡ reading s space
+unfolding fitted parse_checked parse_good reading judged
+fitted_checked s space = go (ltb 16384 (size s)) (ltb 65536 (length s.text)) (eqb (length s.tokens % 24) 0) (ltb (first_bad s.tokens s.text s.end) (size s))
+  where
+    go : (x y z w : Bool) → fitted space (choose x (λ _. unread 7 0) (λ _. choose y (λ _. unread 7 0) (λ _. choose z (λ _. choose w (λ _. unread 2 (first_bad s.tokens s.text s.end)) (λ _. parse_defs s 0)) (λ _. unread 1 0)))) ≡ choose x (λ _. stopped 7 0) (λ _. choose y (λ _. stopped 7 0) (λ _. choose z (λ _. choose w (λ _. stopped 2 (first_bad s.tokens s.text s.end)) (λ _. fitted space (parse_defs s 0))) (λ _. stopped 1 0)))
+    go true y z w = refl
+    go false true z w = refl
+    go false false true true = refl
+    go false false true false = refl
+    go false false false w = refl
+
+pub read_finished : (s : Input) (p : Result State Stop) (r : ℕ) (l l₁ l₂ : List ℕ) → Met (parse_checked s) 0 0 l l₁ p → length l₁ ≡ length l → Finished p l₁ l₂ r → Answered (reading s (slots l)) (length l) l₂ r
+read_finished s p r l l₁ l₂ h z t = rw (fitted_checked s (slots l)) at (met_finished (parse_checked s) p r l l₁ l₂ h z t)
 
 pub place-fits : (b n : ℕ) → b < n → n ≤ 16384 → Fits w32 b
 place-fits b n h k = omega arith

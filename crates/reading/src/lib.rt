@@ -4,11 +4,11 @@
 ghost use Rattle.std.specs.Prelude.{◌≡◌, ℕ, ◌+◌, ◌/◌, ◌≤◌, ◌<◌, length, Ok};
 ghost use Rattle.records.specs.Slots.{slots};
 ghost use Rattle.records.specs.Grounds.{number};
-ghost use Rattle.tokens.specs.Input.{input, size};
-ghost use Rattle.steps.specs.Met.{seen, state};
-ghost use Rattle.parser.specs.Defs.{parse_defs};
-ghost use Rattle.parser.specs.Reading.{stopped, fitted, reading};
+ghost use Rattle.tokens.specs.Input.{input};
+ghost use Rattle.steps.specs.Met.{seen, state, Met};
+ghost use Rattle.parser.specs.Reading.{stopped, reading};
 ghost use Rattle.reading.specs.Answered.{Answered, Finished, Countable};
+ghost use Rattle.reading.specs.Checked.{parse_checked, Checked};
 
 use parser::parse_defs;
 use records::{Ground, accepted, refused_on};
@@ -48,33 +48,39 @@ pub fn finish(out: &mut [u8], p: Result<State, Stop>) -> u64
     }
 }
 
-// Good tokens within the limits of the parser.
-fn read_good(s: &Source, out: &mut [u8]) -> u64
-    requires few { size (seen s.now) ≤ 16385 }
-    requires short { length s.now.text.now ≤ 65536 }
-    ensures { Answered (fitted (slots out.old) (parse_defs (seen s.now) 0)) (length out.old) out.new result }
+// Whether tokens are few, their text is short, and each of them is whole and good; else the refusal: 7, 1 or 2.
+fn check(s: &Source) -> Result<(), Stop>
+    ensures { Checked (seen s.now) result }
 {
-    let p = parse_defs(s, out, State::START);
-    finish(out, p)
+    let count = s.tokens.len() / Token::WIDTH;
+    if 16384 < count {
+        return Err(Stop::before_tokens(Ground::TooMuch, 0));
+    }
+    if 65536 < s.text.len() {
+        return Err(Stop::before_tokens(Ground::TooMuch, 0));
+    }
+    if s.tokens.len() % Token::WIDTH != 0 {
+        return Err(Stop::before_tokens(Ground::PartOfARecord, 0));
+    }
+    if let Some(bad) = first_bad(s.tokens, s.text, s.end) {
+        return Err(Stop::before_tokens(Ground::BadToken, bad as u32));
+    }
+    Ok(())
+}
+
+// The definitions that tokens are, once they are checked.
+fn parse(s: &Source, out: &mut [u8]) -> Result<State, Stop>
+    ensures reads { Met (parse_checked (seen s.now)) 0 0 out.old out.new result }
+    ensures countable { Countable result }
+{
+    check(s)?;
+    parse_defs(s, out, State::START)
 }
 
 // Any tokens, any text, any output.
 pub fn read(tokens: &[u8], text: &[u8], end: u32, out: &mut [u8]) -> u64
     ensures { Answered (reading (input tokens.now text.now end) (slots out.old)) (length out.old) out.new result }
 {
-    let count = tokens.len() / Token::WIDTH;
-    if 16384 < count {
-        return refuse(out, Ground::TooMuch, 0);
-    }
-    if 65536 < text.len() {
-        return refuse(out, Ground::TooMuch, 0);
-    }
-    if tokens.len() % Token::WIDTH != 0 {
-        return refuse(out, Ground::PartOfARecord, 0);
-    }
-    let bad = first_bad(tokens, text, end);
-    if bad < count {
-        return refuse(out, Ground::BadToken, bad as u32);
-    }
-    read_good(&Source { tokens, text, end }, out)
+    let p = parse(&Source { tokens, text, end }, out);
+    finish(out, p)
 }

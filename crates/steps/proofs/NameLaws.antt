@@ -10,8 +10,8 @@ use lib.Dec.{eqb, ltb}
 use mir.Syntax.{w64}
 use mir.Val.{Fits}
 use borrow.Author.Tests.{eq-eqb, ne_eqb, eqb-true, eqb-false, lt-ltb, ltb-true}
-use Rattle.std.specs.Prelude.{Result, Ok, Err}
-use Rattle.std.specs.Result.{IfOk, IsErr, IsErrAnd}
+use Rattle.std.specs.Prelude.{Option, unwrap_or, Result, Ok, Err, MatchResult}
+use Rattle.std.specs.Result.{IfOk, IsErr, IsErrAnd, result_err}
 use Rattle.std.proofs.lemmas.Result.{err_from_is_err_and}
 use Rattle.trees.specs.Choice.{pick, choose}
 use Rattle.trees.specs.Names.{spelled, Nonempty, without_first}
@@ -21,6 +21,7 @@ use Rattle.trees.proofs.Laws.{spelled_nonempty, rest_nonempty, count_none, count
 use Rattle.records.specs.Slots.{put, writes}
 use Rattle.records.proofs.Laws.{writes-node, writes-none}
 use Rattle.records.specs.declared.Ground.{Ground}
+use Rattle.records.specs.declared.Ground.TheVariants.{UnknownPragma}
 use Rattle.records.specs.Grounds.{number, code}
 use Rattle.records.proofs.GroundLaws.{number_above}
 use Rattle.tokens.specs.declared.Token.{Token}
@@ -30,7 +31,7 @@ use Rattle.tokens.specs.Ident.{ident_refusal}
 use Rattle.tokens.proofs.TokenLaws.{const_kind}
 use Rattle.steps.specs.declared.State.{State}
 use Rattle.steps.specs.declared.Stop.{Stop}
-use Rattle.steps.specs.Outcome.{Reader, accept, refuse, refusal, unexpected, refused_as, pragma_refusal, ident_at, const_refusal, name_by, parse_ident, parse_const}
+use Rattle.steps.specs.Outcome.{accept, refuse, refusal, unexpected, refused_as, pragma_refusal, ident_at, const_refusal, name_by, parse_ident}
 use Rattle.steps.specs.Met.{told, state, Met, Chained, SymbolAt, Named}
 
 -- ---- identifiers
@@ -98,6 +99,10 @@ module _ (s : List ℕ) where
   unfolding pragma_refusal
   pragma_bad g e = let z : number g ≡ 0 → ⊥ = λ h. omega (arith, number_above g, h) in rw (← e, ne_eqb (number g) 0 z) refl
 
+pub pragma_of : (r : Result (Unit {0}) Ground) (s : List ℕ) (o : Option Ground) (g : Ground) → code r ≡ ident_refusal s → o ≡ result_err r → g ≡ unwrap_or o UnknownPragma → number g ≡ pragma_refusal s
+pragma_of (Ok x) s o g e f h = rw (h, f) (pragma_unknown s e)
+pragma_of (Err y) s o g e f h = rw (h, f) (pragma_bad s y e)
+
 -- ---- what is left without the `$`
 
 -- a constant starts inside the text
@@ -139,6 +144,13 @@ named_ok c w e n = (sym e, refl, n)
 pub named_err : (c w : ℕ) (g : Ground) → number g ≡ c → Named c w (Err g)
 unfolding Named
 named_err c w g e = (e, λ z. omega (arith, number_above g, e, z))
+
+-- a name judged, and its refusal for another reason
+pub named_or : (p r : Result ℕ Ground) (b : List ℕ) (w : ℕ) (why : Ground) (post : Ground → Ground → Type 0) → Named (ident_refusal b) w p → MatchResult p (λ x. r ≡ Ok x) (λ e. IsErrAnd r (post e)) → ((e g : Ground) → post e g → g ≡ why) → Named (refused_as (number why) b) w r
+unfolding Named
+named_or (Ok n) r b w why post h m k = rw m (sym (refused_other b why (sym h.0)), h.1, h.2)
+named_or (Err e) (Ok n) b w why post h m k = absurd m
+named_or (Err e) (Err g) b w why post h m k = let c = refused_so b why e h.0 in (ap number (k e g m) ∙ c, λ z. omega (arith, number_above why, c, z))
 
 pub named_nonempty : (c w : ℕ) (r : Result ℕ Ground) → Named c w r → IfOk r Nonempty
 unfolding Named

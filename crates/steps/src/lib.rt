@@ -11,7 +11,7 @@ ghost use Rattle.tokens.specs.Token.{token_at, kind_at, is_kind, is_lparen, is_r
 ghost use Rattle.tokens.specs.Input.{peek, pos_at, size};
 ghost use Rattle.tokens.specs.Kind.{kind_number};
 ghost use Rattle.records.specs.Grounds.{number};
-ghost use Rattle.steps.specs.Outcome.{unexpected, expect_at, expect-lparen, expect-rparen, expect-at, expect-word, refuse_at, refuse_after, ate, eat};
+ghost use Rattle.steps.specs.Outcome.{refusal, unexpected, expect_at, expect-lparen, expect-rparen, expect-at, expect-word, refuse_at, refuse_after, ate, eat};
 ghost use Rattle.steps.specs.Met.{seen, told, state, inside};
 ghost use Rattle.steps.specs.Read.{read_by, Read, Passed, Begun, Same, Went};
 
@@ -52,7 +52,22 @@ pub struct Stop {
     pub taken: usize,
 }
 
+impl Stop {
+    // A refusal before the first token is consumed.
+    pub fn before_tokens(why: Ground, place: u32) -> Stop
+        ensures { told result ≡ refusal (number why) place 0 }
+    {
+        Stop {
+            why,
+            place,
+            taken: 0,
+        }
+    }
+}
+
 // What is read, the output that the records go to, and how far reading is: Parser of the Rust.
+// Kept: that the tokens are few and the text short is a premise (`Begins`) and no ghost field here: next_token, expect_lparen and others ask nothing
+// of it, and a ghost field would ask it of all who make a parser.
 #[derive(Drop)]
 pub struct Parser<'a> {
     pub source: Source<'a>,
@@ -61,18 +76,17 @@ pub struct Parser<'a> {
 }
 
 // The refusal of the token t at an index where another is expected.
+#[tactic(auto, unfolding(crate::specs::Outcome::unexpected))]
 fn unexpected(t: Token, at: usize) -> Stop
     ensures { told result ≡ unexpected t at }
 {
-    if t.kind == Token::NONE {
-        return Stop {
-            why: Ground::UnexpectedEnd,
-            place: t.pos,
-            taken: at,
-        };
-    }
+    let why = if t.kind == Token::NONE {
+        Ground::UnexpectedEnd
+    } else {
+        Ground::UnexpectedToken
+    };
     Stop {
-        why: Ground::UnexpectedToken,
+        why,
         place: t.pos,
         taken: at,
     }

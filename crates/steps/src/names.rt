@@ -51,20 +51,14 @@ fn ident_name(text: &[u8], range: u64) -> Result<u64, Ground>
 fn name_or(text: &[u8], range: u64, why: Ground) -> Result<u64, Ground>
     ensures { Named (refused_as (number why) (spelled text.now range)) range result }
 {
-    match check_ident(spelling(text, range)) {
-        Ok(()) => Ok(range),
-        Err(_) => Err(why),
-    }
+    ident_name(text, range).map_err(|_| why)
 }
 
 // Why a pragma's name is refused: none is known.
 fn pragma_ground(s: &[u8]) -> Ground
     ensures { number result ≡ pragma_refusal s.now }
 {
-    match check_ident(s) {
-        Ok(()) => Ground::UnknownPragma,
-        Err(why) => why,
-    }
+    check_ident(s).err().unwrap_or(Ground::UnknownPragma)
 }
 
 impl Parser<'_> {

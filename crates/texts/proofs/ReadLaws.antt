@@ -19,23 +19,25 @@ use Rattle.tokens.specs.Token.{token_count, is_refused, is_too_many}
 use Rattle.tokens.specs.Lent.{ascii}
 use Rattle.tokens.specs.Input.{Input, input, peek, size}
 use Rattle.std.specs.Prelude.{Result, Ok, Err}
-use Rattle.std.specs.Result.{IfOk}
+use Rattle.std.specs.Result.{IfOk, IsErr, IsErrAnd}
+use Rattle.std.proofs.lemmas.Result.{err_from_is_err_and}
 use Rattle.records.specs.declared.Ground.TheVariants.{TooMuch, NotAToken, RuleName}
 use Rattle.records.specs.Grounds.{number}
 use Rattle.records.proofs.GroundLaws.{rule_name_number}
 use Rattle.steps.specs.declared.State.{State}
 use Rattle.steps.specs.declared.Stop.{Stop}
-use Rattle.steps.specs.Outcome.{Outcome, accept, refuse}
+use Rattle.steps.specs.Outcome.{Outcome, accept, refuse, refusal}
 use Rattle.steps.specs.Met.{told, state, Met, Chained, Within}
 use Rattle.parser.specs.Defs.{parse_defs}
 use Rattle.parser.specs.Reading.{stopped, fitted}
 use Rattle.reading.specs.Answered.{Answered, Finished, Countable}
-use Rattle.reading.proofs.ReadLaws.{met_finished, good_countable}
+use Rattle.reading.proofs.ReadLaws.{met_finished}
 use Rattle.lexer.specs.Lexer.{token, run_end}
 use Rattle.lexer.specs.Text.{lexed, Stops, at-end, refused, too_many, records_of, Wrote}
 use Rattle.lexer.proofs.RunLaws.{stops, length-lexed}
 use Rattle.texts.specs.TextReading.{token_bytes, foremost, looked_ahead, parse_text, is_ascii, text_reading}
-use Rattle.texts.specs.Looked.{Looked}
+use Rattle.reading.specs.Checked.{unread}
+use Rattle.texts.specs.Checked.{parse_checked, Passed, Checked}
 
 -- ---- a refusal
 
@@ -58,35 +60,28 @@ module _ (s : Input) (d : Stop) (t : Token) (a b : Bool) (p : t ≡ peek s d.tak
       let z : number d.why ≡ 23 → ⊥ = λ h. w (rule_name_number d.why h) in
       rw (← p, ← x, y, ← u, v, ne_eqb (number d.why) 23 z)
 
-pub looked_ok : (s : Input) (q : State) → Looked s (Ok q) (Ok q)
-unfolding Looked
-looked_ok s q = refl
-
-pub looked_err : (s : Input) (d x : Stop) → told x ≡ foremost (peek s d.taken) (told d) → Looked s (Err d) (Err x)
-unfolding Looked
-looked_err s d x e = e
-
 -- ---- the lexer's tokens
 
-looked_met : (s : Input) (o : Outcome) (p r : Result State Stop) (l l₁ : List ℕ) → Looked s p r → Met o 0 0 l l₁ p → Met (looked_ahead s o) 0 0 l l₁ r
-unfolding Met looked_ahead Looked
-looked_met s (accept ts j) (Ok q) r l l₁ e h = rw e h
-looked_met s (accept ts j) (Err d) r l l₁ e h = absurd h
-looked_met s (refuse x) (Ok q) r l l₁ e h = absurd h
-looked_met s (refuse x) (Err d) (Ok q) l l₁ e h = absurd e
-looked_met s (refuse x) (Err d) (Err y) l l₁ e h = e ∙ rw (← h)
+module _ (s : Input) (l l₁ : List ℕ) where
+  pub lexed_read : (q : State) → Chained (parse_defs s) (state 0 0 0) l l₁ (Ok q) → Met (looked_ahead s (parse_defs s 0)) 0 0 l l₁ (Ok q)
+  unfolding Met looked_ahead
+  lexed_read q h = go (parse_defs s 0) h.met
+    where
+      go : (o : Outcome) → Met o 0 0 l l₁ (Ok q) → Met (looked_ahead s o) 0 0 l l₁ (Ok q)
+      go (accept ts j) m = m
+      go (refuse e) m = absurd m
 
-pub looked_countable : (s : Input) (p r : Result State Stop) → Looked s p r → Countable p → Countable r
-unfolding Countable Looked
-looked_countable s (Ok q) r e h = rw e h
-looked_countable s (Err d) (Ok q) e h = absurd e
-looked_countable s (Err d) (Err x) e h = tt
+  pub lexed_refused : (d x : Stop) → Chained (parse_defs s) (state 0 0 0) l l₁ (Err d) → told x ≡ foremost (peek s d.taken) (told d) → Met (looked_ahead s (parse_defs s 0)) 0 0 l l₁ (Err x)
+  unfolding Met looked_ahead
+  lexed_refused d x h f = go (parse_defs s 0) h.met
+    where
+      go : (o : Outcome) → Met o 0 0 l l₁ (Err d) → Met (looked_ahead s o) 0 0 l l₁ (Err x)
+      go (accept ts j) m = absurd m
+      go (refuse e) m = f ∙ rw (← m) refl
 
-pub lexed_countable : (s : Input) (p r : Result State Stop) → size s ≤ 16385 → IfOk p (Within 0 0 0 s (state 0 0 0)) → Looked s p r → Countable r
-lexed_countable s p r a w e = looked_countable s p r e (good_countable s p a w)
-
-pub lexed_finished : (s : Input) (p q : Result State Stop) (r : ℕ) (l l₁ l₂ : List ℕ) → Chained (parse_defs s) (state 0 0 0) l l₁ p → length l₁ ≡ length l → Looked s p q → Finished q l₁ l₂ r → Answered (fitted (slots l) (looked_ahead s (parse_defs s 0))) (length l) l₂ r
-lexed_finished s p q r l l₁ l₂ h z f t = met_finished (looked_ahead s (parse_defs s 0)) q r l l₁ l₂ (looked_met s (parse_defs s 0) p q l l₁ f h.met) z t
+pub refused_countable : (x : Stop) → Countable (Err x)
+unfolding Countable
+refused_countable x = tt
 
 -- ---- the table
 
@@ -137,9 +132,9 @@ module _ (text l l' : List ℕ) (n : ℕ) (w : Wrote (lexed text) 0 l l' n) wher
       let k : n ≡ length (lexed text) = omega (arith, w.count) in
       rw (w.output, k) (front (lexed text) l z ∙ sym (token-bytes (lexed text)))
 
-  pub within-is : (space m r : ℕ) (o : List ℕ) → length (lexed text) ≤ slots l → Answered (fitted space (looked_ahead (input (take (n * 24) l') text (length text)) (parse_defs (input (take (n * 24) l') text (length text)) 0))) m o r → Answered (fitted space (parse_text text)) m o r
+  pub within-is : (o o₁ : List ℕ) (p : Result State Stop) → length (lexed text) ≤ slots l → Met (looked_ahead (input (take (n * 24) l') text (length text)) (parse_defs (input (take (n * 24) l') text (length text)) 0)) 0 0 o o₁ p → Met (parse_text text) 0 0 o o₁ p
   unfolding parse_text
-  within-is space m r o z a = rw (front_is z) at a
+  within-is o o₁ p z a = rw (front_is z) at a
 
 -- a table of m bytes has space for a text of m / 24 bytes, and for 16,385 tokens of any text
 pub short_table : (text : List ℕ) (m : ℕ) → length text ≤ m / 24 → length (lexed text) ≤ m / 24
@@ -168,19 +163,49 @@ ascii-before (c ∷ cs) i e = go (leb 128 c) refl e (λ h. ascii-before cs (i + 
     go true p q f = rw (le-ltb c 128 (leb-true 128 c p)) (omega arith)
     go false p q f = rw (lt-ltb c 128 (leb-false 128 c p)) (omega (arith, f q))
 
-module _ (text : List ℕ) (n r space : ℕ) (l' : List ℕ) where
-  pub too_long : 65536 < length text → Answered (stopped 7 0) n l' r → Answered (text_reading text space) n l' r
-  unfolding text_reading
-  too_long h a = rw (lt-ltb 65536 (length text) h) a
+module _ (text : List ℕ) where
+  pub too_long : (d : Stop) → 65536 < length text → told d ≡ refusal 7 0 0 → Checked text (Err d)
+  unfolding Checked parse_checked
+  too_long d h e = rw (lt-ltb 65536 (length text) h, e) refl
 
-  pub plain : (b : Bool) → length text ≤ 65536 → b ≡ ascii text → b ≡ true → Answered (fitted space (parse_text text)) n l' r → Answered (text_reading text space) n l' r
-  unfolding text_reading
-  plain b h w k a =
-      let z = ascii-end text 0 (sym w ∙ k) in
-      rw (le-ltb 65536 (length text) h, le-ltb (run_end is_ascii text 0) (length text) (omega arith)) a
-
-  pub not_ascii : (b : Bool) (p : ℕ) → length text ≤ 65536 → b ≡ ascii text → b ≡ false → p ≡ run_end is_ascii text 0 → Answered (stopped 41 p) n l' r → Answered (text_reading text space) n l' r
-  unfolding text_reading
-  not_ascii b p h w k t a =
+  pub not_ascii : (d : Stop) (b : Bool) (p : ℕ) → length text ≤ 65536 → b ≡ ascii text → b ≡ false → p ≡ run_end is_ascii text 0 → told d ≡ refusal 41 p 0 → Checked text (Err d)
+  unfolding Checked parse_checked
+  not_ascii d b p h w k t e =
       let z = ascii-before text 0 (sym w ∙ k) in
-      rw (le-ltb 65536 (length text) h, lt-ltb (run_end is_ascii text 0) (length text) (omega arith), ← t) a
+      rw (le-ltb 65536 (length text) h, lt-ltb (run_end is_ascii text 0) (length text) (omega arith), ← t, e) refl
+
+  pub plain : (b : Bool) → length text ≤ 65536 → b ≡ ascii text → b ≡ true → Checked text (Ok tt)
+  unfolding Checked parse_checked
+  plain b h w k =
+      let z = ascii-end text 0 (sym w ∙ k) in
+      record { short = h; reads = rw (le-ltb 65536 (length text) h, le-ltb (run_end is_ascii text 0) (length text) (omega arith)) refl }
+
+-- ---- after the checks
+
+pub unchecked_met : (p : Result State Stop) (d : Stop) → IsErr p × IsErrAnd p (λ e. e ≡ d) → (text l : List ℕ) → Checked text (Err d) → Met (parse_checked text) 0 0 l l p
+unfolding Checked Met
+unchecked_met p d h text l c = let e = err_from_is_err_and p h.1 in rw (c, e.1, e.2) refl
+
+module _ (text : List ℕ) (c : Checked text (Ok tt)) where
+  passed_all : Passed text
+  unfolding Checked
+  passed_all = c
+
+  pub checked_short : length text ≤ 65536
+  checked_short = passed_all.short
+
+  pub checked_met : (p : Result State Stop) (l l₁ : List ℕ) → Met (parse_text text) 0 0 l l₁ p → Met (parse_checked text) 0 0 l l₁ p
+  checked_met p l l₁ h = rw passed_all.reads h
+
+-- what is answered, by the space
+fitted_checked : (text : List ℕ) (space : ℕ) → fitted space (parse_checked text) ≡ text_reading text space
+unfolding fitted parse_checked text_reading
+fitted_checked text space = go (ltb 65536 (length text)) (ltb (run_end is_ascii text 0) (length text))
+  where
+    go : (x y : Bool) → fitted space (choose x (λ _. unread 7 0) (λ _. choose y (λ _. unread 41 (run_end is_ascii text 0)) (λ _. parse_text text))) ≡ choose x (λ _. stopped 7 0) (λ _. choose y (λ _. stopped 41 (run_end is_ascii text 0)) (λ _. fitted space (parse_text text)))
+    go true y = refl
+    go false true = refl
+    go false false = refl
+
+pub text_finished : (text : List ℕ) (p : Result State Stop) (r : ℕ) (l l₁ l₂ : List ℕ) → Met (parse_checked text) 0 0 l l₁ p → length l₁ ≡ length l → Finished p l₁ l₂ r → Answered (text_reading text (slots l)) (length l) l₂ r
+text_finished text p r l l₁ l₂ h z t = rw (fitted_checked text (slots l)) at (met_finished (parse_checked text) p r l l₁ l₂ h z t)

@@ -1,2 +1,2 @@
 pub mod TextReading
-pub mod Looked
+pub mod Checked

@@ -4,18 +4,17 @@
 ghost use Rattle.std.specs.Prelude.{◌≡◌, ◌*◌, ◌/◌, ◌≤◌, ◌<◌, length};
 ghost use Rattle.records.specs.Slots.{slots};
 ghost use Rattle.tokens.specs.Input.{peek, size};
-ghost use Rattle.steps.specs.Met.{seen, told};
+ghost use Rattle.steps.specs.Met.{seen, told, Met};
 ghost use Rattle.parser.specs.Defs.{parse_defs};
-ghost use Rattle.parser.specs.Reading.{fitted};
 ghost use Rattle.lexer.specs.Text.{lexed};
-ghost use Rattle.reading.specs.Answered.{Answered};
-ghost use Rattle.texts.specs.Looked.{Looked};
+ghost use Rattle.reading.specs.Answered.{Answered, Countable};
+ghost use Rattle.texts.specs.Checked.{parse_checked, Checked};
 ghost use Rattle.texts.specs.TextReading.{first_high, foremost, looked_ahead, parse_text, text_reading};
 
 use lexer::gaps::run_end;
 use lexer::text::lex;
 use parser::parse_defs;
-use reading::{finish, refuse};
+use reading::finish;
 use records::Ground;
 use steps::{Source, State, Stop};
 use tokens::lent::is_ascii;
@@ -55,32 +54,26 @@ fn foremost(s: &Source, d: Stop) -> Stop
     }
 }
 
-// The same at the end of the parser.
-fn looked(s: &Source, p: Result<State, Stop>) -> Result<State, Stop>
-    ensures { Looked (seen s.now) p result }
+// The definitions that the lexer's tokens are, or the refusal that is met first.
+fn parse_lexed(s: &Source, out: &mut [u8]) -> Result<State, Stop>
+    requires few { size (seen s.now) ≤ 16385 }
+    requires short { length s.now.text.now ≤ 65536 }
+    ensures reads { Met (looked_ahead (seen s.now) (parse_defs (seen s.now) 0)) 0 0 out.old out.new result }
+    ensures countable { Countable result }
 {
-    match p {
+    // Kept: a `match`, since after `map_err` nothing is known of the Stop that the closure made, with a clause at the closure or without.
+    match parse_defs(s, out, State::START) {
         Ok(q) => Ok(q),
         Err(d) => Err(foremost(s, d)),
     }
 }
 
-// The lexer's tokens.
-fn read_lexed(s: &Source, out: &mut [u8]) -> u64
-    requires few { size (seen s.now) ≤ 16385 }
-    requires short { length s.now.text.now ≤ 65536 }
-    ensures { Answered (fitted (slots out.old) (looked_ahead (seen s.now) (parse_defs (seen s.now) 0))) (length out.old) out.new result }
-{
-    let p = parse_defs(s, out, State::START);
-    let q = looked(s, p);
-    finish(out, q)
-}
-
-// A text within the limit, with a table that has space for its tokens and for what stops the lexer.
-fn read_within(text: &[u8], table: &mut [u8], out: &mut [u8]) -> u64
+// Those of a text within the limit, with a table that has space for its tokens and for what stops the lexer.
+fn parse_within(text: &[u8], table: &mut [u8], out: &mut [u8]) -> Result<State, Stop>
     requires short { length text.now ≤ 65536 }
     requires room { length (lexed text.now) ≤ slots table.old }
-    ensures { Answered (fitted (slots out.old) (parse_text text.now)) (length out.old) out.new result }
+    ensures reads { Met (parse_text text.now) 0 0 out.old out.new result }
+    ensures countable { Countable result }
 {
     let n = lex(text, table);
     let s = Source {
@@ -88,47 +81,67 @@ fn read_within(text: &[u8], table: &mut [u8], out: &mut [u8]) -> u64
         text,
         end: text.len() as u32,
     };
-    read_lexed(&s, out)
+    parse_lexed(&s, out)
 }
 
-// Any text within the limit, with a table of N bytes.
-fn read_with<const N: usize>(text: &[u8], out: &mut [u8]) -> u64
+// The same with a table of N bytes.
+fn parse_with<const N: usize>(text: &[u8], out: &mut [u8]) -> Result<State, Stop>
     requires short { length text.now ≤ 65536 }
     requires room { length (lexed text.now) ≤ N / 24 }
     requires small { N < 9223372036854775808 }
-    ensures { Answered (fitted (slots out.old) (parse_text text.now)) (length out.old) out.new result }
+    ensures reads { Met (parse_text text.now) 0 0 out.old out.new result }
+    ensures countable { Countable result }
 {
     let mut table = [0u8; N];
-    read_within(text, &mut table, out)
+    parse_within(text, &mut table, out)
 }
 
 // The table by the text's length. The tables are for texts of up to 256, 1,024 and 4,096 bytes, which have no more tokens than bytes, and for 16,385 tokens:
 // a table is zero at first, and a short text does not wait for a long one's.
-fn read_plain(text: &[u8], out: &mut [u8]) -> u64
+fn parse_plain(text: &[u8], out: &mut [u8]) -> Result<State, Stop>
     requires { length text.now ≤ 65536 }
-    ensures { Answered (fitted (slots out.old) (parse_text text.now)) (length out.old) out.new result }
+    ensures reads { Met (parse_text text.now) 0 0 out.old out.new result }
+    ensures countable { Countable result }
 {
     if text.len() <= 256 {
-        return read_with::<6144>(text, out);
+        return parse_with::<6144>(text, out);
     }
     if text.len() <= 1024 {
-        return read_with::<24576>(text, out);
+        return parse_with::<24576>(text, out);
     }
     if text.len() <= 4096 {
-        return read_with::<98304>(text, out);
+        return parse_with::<98304>(text, out);
     }
-    read_with::<393240>(text, out)
+    parse_with::<393240>(text, out)
+}
+
+// Whether a text is short and below 128; else the refusal: 7 or 41.
+fn check(text: &[u8]) -> Result<(), Stop>
+    ensures { Checked text.now result }
+{
+    if 65536 < text.len() {
+        return Err(Stop::before_tokens(Ground::TooMuch, 0));
+    }
+    if !is_ascii(text) {
+        let place = first_high(text) as u32;
+        return Err(Stop::before_tokens(Ground::NotAscii, place));
+    }
+    Ok(())
+}
+
+// The definitions of a text, once it is checked.
+fn parse(text: &[u8], out: &mut [u8]) -> Result<State, Stop>
+    ensures reads { Met (parse_checked text.now) 0 0 out.old out.new result }
+    ensures countable { Countable result }
+{
+    check(text)?;
+    parse_plain(text, out)
 }
 
 // Any text, any output.
 pub fn read_text(text: &[u8], out: &mut [u8]) -> u64
     ensures { Answered (text_reading text.now (slots out.old)) (length out.old) out.new result }
 {
-    if 65536 < text.len() {
-        return refuse(out, Ground::TooMuch, 0);
-    }
-    if is_ascii(text) {
-        return read_plain(text, out);
-    }
-    refuse(out, Ground::NotAscii, first_high(text) as u32)
+    let p = parse(text, out);
+    finish(out, p)
 }

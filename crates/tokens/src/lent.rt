@@ -1,5 +1,5 @@
 // A lent token list: the first record that is no good token (refusal 2).
-ghost use Rattle.std.specs.Prelude.{◌≡◌, ℕ, ◌+◌, ◌*◌, ◌≤◌, ◌<◌, length};
+ghost use Rattle.std.specs.Prelude.{◌≡◌, ℕ, ◌+◌, ◌*◌, ◌≤◌, ◌<◌, length, unwrap_or, IfSome};
 ghost use Rattle.tokens.specs.Token.{token_count};
 ghost use Rattle.tokens.specs.Lent.{ascii, reach, good_value, good_words, good_token, first_bad};
 
@@ -27,6 +27,7 @@ struct Lent<'a> {
 
 impl Lent<'_> {
     // How far a token's range may reach: a symbol's to the end of the text, the others have none.
+    #[tactic(auto, unfolding(crate::specs::Lent::reach))]
     fn reach(&self, kind: u8) -> u64
         ensures { result ≡ reach self.now.text.now kind }
     {
@@ -56,6 +57,7 @@ impl Lent<'_> {
         is_ascii(spelling(self.text, b))
     }
 
+    #[tactic(auto, unfolding(crate::specs::Lent::good_words))]
     fn is_good_words(&self, a: u64, b: u64, c: u64) -> bool
         ensures { result ≡ good_words self.now.text.now self.now.end a b c }
     {
@@ -76,6 +78,7 @@ impl Lent<'_> {
     }
 
     // Whether the token at an index is a good one.
+    #[tactic(auto, unfolding(crate::specs::Lent::good_token))]
     fn is_good(&self, at: usize) -> bool
         requires { at < token_count self.now.tokens.now }
         ensures { result ≡ good_token self.now.tokens.now self.now.text.now self.now.end at }
@@ -88,9 +91,10 @@ impl Lent<'_> {
     }
 }
 
-// The index of the first token that is not good, or the number of tokens.
-pub fn first_bad(tokens: &[u8], text: &[u8], end: u32) -> usize
-    ensures { result ≡ first_bad tokens.now text.now end }
+// The index of the first token that is not good, where there is one.
+pub fn first_bad(tokens: &[u8], text: &[u8], end: u32) -> Option<usize>
+    ensures inside { IfSome result (λ i. i < token_count tokens.now) }
+    ensures first { unwrap_or result (token_count tokens.now) ≡ first_bad tokens.now text.now end }
 {
     let count = tokens.len() / Token::WIDTH;
     let lent = Lent {
@@ -101,8 +105,8 @@ pub fn first_bad(tokens: &[u8], text: &[u8], end: u32) -> usize
     };
     for i in 0..count {
         if !lent.is_good(i) {
-            return i;
+            return Some(i);
         }
     }
-    count
+    None
 }

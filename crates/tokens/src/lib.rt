@@ -64,42 +64,49 @@ impl Token {
 
     pub const TOO_MANY: u8 = TokenKind::TooMany as u8;
 
+    #[tactic(auto, unfolding(crate::specs::Token::is_lparen))]
     pub fn is_lparen(self) -> bool
         ensures { result ≡ is_lparen self }
     {
         self.kind == Token::LPAREN
     }
 
+    #[tactic(auto, unfolding(crate::specs::Token::is_rparen))]
     pub fn is_rparen(self) -> bool
         ensures { result ≡ is_rparen self }
     {
         self.kind == Token::RPAREN
     }
 
+    #[tactic(auto, unfolding(crate::specs::Token::is_symbol))]
     pub fn is_symbol(self) -> bool
         ensures { result ≡ is_symbol self }
     {
         self.kind == Token::SYMBOL
     }
 
+    #[tactic(auto, unfolding(crate::specs::Token::is_int))]
     pub fn is_int(self) -> bool
         ensures { result ≡ is_int self }
     {
         self.kind == Token::INT
     }
 
+    #[tactic(auto, unfolding(crate::specs::Token::is_at))]
     pub fn is_at(self) -> bool
         ensures { result ≡ is_at self }
     {
         self.kind == Token::AT
     }
 
+    #[tactic(auto, unfolding(crate::specs::Token::is_refused))]
     pub fn is_refused(self) -> bool
         ensures { result ≡ is_refused self }
     {
         self.kind == Token::REFUSED
     }
 
+    #[tactic(auto, unfolding(crate::specs::Token::is_too_many))]
     pub fn is_too_many(self) -> bool
         ensures { result ≡ is_too_many self }
     {
@@ -119,6 +126,7 @@ impl Token {
     }
 
     // Whether the token is the symbol w.
+    #[tactic(auto, unfolding(crate::specs::Token::is_word))]
     pub fn is_word(self, text: &[u8], w: &[u8]) -> bool
         ensures { result ≡ is_word text.now w.now self }
     {
@@ -137,14 +145,11 @@ fn all_pass<F: Fn(u8) -> bool>(s: &[u8], test: F) -> bool
     requires tells { (c : ℕ) (r : Bool) → F.post test c r → r ≡ passes c }
     ensures { result ≡ list_all passes s.now }
 {
-    let mut all = true;
-    for c in s {
-        all = all & test(*c);
-    }
-    all
+    s.iter().fold(true, |all, c| all & test(*c))
 }
 
 // The token at an index, or what stands past the last one.
+#[tactic(auto, unfolding(crate::specs::Token::token_at))]
 pub fn token_at(tokens: &[u8], end: u32, at: usize) -> Token
     ensures { result ≡ token_at tokens.now end at }
 {
@@ -168,6 +173,7 @@ pub fn token_at(tokens: &[u8], end: u32, at: usize) -> Token
 }
 
 // Its kind alone, for a test of what stands next; compiled, it reads one byte.
+#[tactic(auto, unfolding(crate::specs::Token::kind_at))]
 pub fn kind_at(tokens: &[u8], at: usize) -> u8
     ensures { result ≡ kind_at tokens.now at }
 {
@@ -179,6 +185,7 @@ pub fn kind_at(tokens: &[u8], at: usize) -> u8
 }
 
 // Its position alone.
+#[tactic(auto, unfolding(crate::specs::Token::token_at))]
 pub fn pos_at(tokens: &[u8], end: u32, at: usize) -> u32
     ensures { result ≡ (token_at tokens.now end at).pos }
 {

@@ -9,6 +9,7 @@ use crate::all_pass;
 use records::Ground;
 
 // The bytes of the text at a range, start * 2^32 + length; what lies past the text's end is left out.
+#[tactic(auto, using(crate::proofs::NameLaws::spelled_is))]
 pub fn spelling(text: &[u8], range: u64) -> &[u8]
     ensures { result.now ≡ spelled text.now range }
 {

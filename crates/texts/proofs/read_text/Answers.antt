@@ -1,11 +1,5 @@
-use Rattle.texts.proofs.ReadLaws.{too_long, plain, not_ascii}
+use Rattle.texts.proofs.ReadLaws.{text_finished}
 use Rattle.texts.proofs.read_text.Goals as goal
 
-pub returns-then-text-gt65536 : goal.returns-then-text-gt65536
-returns-then-text-gt65536 c = search too_long
-
-pub returns-then-is_ascii : goal.returns-then-is_ascii
-returns-then-is_ascii c = search plain
-
 pub returns : goal.returns
-returns c = search not_ascii
+returns c = text_finished _ _ _ _ _ _ c.parse-p.ensures.reads c.parse-p.auto.out c.finish.ensures

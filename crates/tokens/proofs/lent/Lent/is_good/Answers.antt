@@ -1,5 +1,0 @@
-use Rattle.tokens.proofs.LentLaws.{good-is}
-use Rattle.tokens.proofs.lent.Lent.is_good.Goals as goal
-
-pub returns : goal.returns
-returns c = search good-is
