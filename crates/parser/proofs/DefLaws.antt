@@ -19,7 +19,7 @@ use Rattle.steps.specs.declared.Parser.{Parser}
 use Rattle.steps.specs.declared.State.{State}
 use Rattle.steps.specs.declared.Stop.{Stop}
 use Rattle.steps.specs.Sizes.{Bounded}
-use Rattle.steps.specs.Met.{Met, Chained}
+use Rattle.steps.specs.Met.{Chained}
 use Rattle.steps.specs.Read.{read_by, came_to, Read}
 use Rattle.steps.proofs.MetLaws.{second_yes, second_no}
 use Rattle.steps.proofs.SizeLaws.{Steady, Item, steady, item, less_bounded, then_bounded, bare-bounded, flagged-bounded, next-bounded, second-bounded, after-bounded, eat_steady, lparen-bounded, rparen-bounded, word-bounded, ident-bounded, pragma_bounded}
@@ -145,10 +145,10 @@ other_read u x {p = p} a e m = record { read = other_met (read_by p) u x a e m.r
 
 -- ---- all definitions, by a parser made for them
 
-pub parsed : {p p' : Parser} {u : Unit {0}} {x : List ℕ} → Read parse_defs p p' (Ok u) → x ≡ p'.out.now → Met (parse_defs (read_by p) p.state.next) p.state.count p.state.items p.out.now x (Ok p'.state)
+pub parsed : {p p' : Parser} {u : Unit {0}} {x : List ℕ} → Read parse_defs p p' (Ok u) → x ≡ p'.out.now → Chained (parse_defs (read_by p)) p.state p.out.now x (Ok p'.state)
 unfolding came_to
-parsed m e = rw e m.read.met
+parsed m e = rw e m.read
 
-pub parse_stopped : (r : Result State Stop) {p p' : Parser} {d : Stop} {x : List ℕ} → IsErr r × IsErrAnd r (λ e. e ≡ d) → Read parse_defs p p' (Err d) → x ≡ p'.out.now → Met (parse_defs (read_by p) p.state.next) p.state.count p.state.items p.out.now x r
+pub parse_stopped : (r : Result State Stop) {p p' : Parser} {d : Stop} {x : List ℕ} → IsErr r × IsErrAnd r (λ e. e ≡ d) → Read parse_defs p p' (Err d) → x ≡ p'.out.now → Chained (parse_defs (read_by p)) p.state p.out.now x r
 unfolding came_to
-parse_stopped r h m e = let k = err_from_is_err_and r h.1 in rw (k.1, k.2, e) m.read.met
+parse_stopped r h m e = let k = err_from_is_err_and r h.1 in rw (k.1, k.2, e) m.read

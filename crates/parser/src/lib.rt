@@ -6,11 +6,11 @@ pub mod decls;
 pub mod rules;
 pub mod types;
 
-ghost use Rattle.std.specs.Prelude.{◌≡◌, ℕ, ◌+◌, ◌≤◌, ◌<◌, length, leb, IfOk};
+ghost use Rattle.std.specs.Prelude.{◌≡◌, ℕ, ◌+◌, ◌≤◌, ◌<◌, leb, IfOk};
 ghost use Rattle.trees.specs.Choice.{pick};
 ghost use Rattle.records.specs.Grounds.{number};
 ghost use Rattle.tokens.specs.Input.{size, peek};
-ghost use Rattle.steps.specs.Met.{seen, state, Met, Within};
+ghost use Rattle.steps.specs.Met.{seen, state, Chained, Ready, Within};
 ghost use Rattle.steps.specs.Read.{read_by, Read, Begins, Went};
 ghost use Rattle.parser.specs.Types.{parse_type};
 ghost use Rattle.parser.specs.Defs.{parse_pragma, parse_decl, parse_attr, parse_rule, parse_etor, parse_extern, parse_converter, is_uncovered, other_def, rest_def, parse_def, parse_defs};
@@ -212,9 +212,8 @@ pub fn parse_defs(p: &mut Parser) -> Result<(), Stop>
 
 // parse of the Rust: the definitions that the tokens are, written from the first slot on.
 pub fn parse(s: &Source, out: &mut [u8]) -> Result<State, Stop>
-    requires few { size (seen s.now) ≤ 16385 }
-    requires short { length s.now.text.now ≤ 65536 }
-    ensures reads { Met (parse_defs (seen s.now) 0) 0 0 out.old out.new result }
+    requires { Ready 4 (seen s.now) (state 0 0 0) }
+    ensures reads { Chained (parse_defs (seen s.now)) (state 0 0 0) out.old out.new result }
     ensures within { IfOk result (Within 0 0 0 (seen s.now) (state 0 0 0)) }
 {
     let mut p = Parser {

@@ -10,7 +10,6 @@ ghost use Rattle.parser.specs.Reading.{stopped, reading};
 ghost use Rattle.reading.specs.Answered.{Answered, Finished, Countable};
 ghost use Rattle.reading.specs.Checked.{parse_checked, Checked};
 
-use parser::parse_defs;
 use records::{Ground, accepted, refused_on};
 use steps::{Source, State, Stop};
 use tokens::Token;
@@ -74,7 +73,7 @@ fn parse(s: &Source, out: &mut [u8]) -> Result<State, Stop>
     ensures countable { Countable result }
 {
     check(s)?;
-    parse_defs(s, out, State::START)
+    parser::parse(s, out)
 }
 
 // Any tokens, any text, any output.

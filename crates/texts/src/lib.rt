@@ -13,7 +13,6 @@ ghost use Rattle.texts.specs.TextReading.{first_high, foremost, looked_ahead, pa
 
 use lexer::gaps::run_end;
 use lexer::text::lex;
-use parser::parse_defs;
 use reading::finish;
 use records::Ground;
 use steps::{Source, State, Stop};
@@ -62,7 +61,7 @@ fn parse_lexed(s: &Source, out: &mut [u8]) -> Result<State, Stop>
     ensures countable { Countable result }
 {
     // Kept: a `match`, since after `map_err` nothing is known of the Stop that the closure made, with a clause at the closure or without.
-    match parse_defs(s, out, State::START) {
+    match parser::parse(s, out) {
         Ok(q) => Ok(q),
         Err(d) => Err(foremost(s, d)),
     }

@@ -3,8 +3,8 @@ use Rattle.reading.proofs.ReadLaws.{begins, good_countable}
 use Rattle.texts.proofs.ReadLaws.{lexed_read, lexed_refused, refused_countable}
 use Rattle.texts.proofs.parse_lexed.Goals as goal
 
-pub parse_defs-requires : goal.parse_defs-requires
-parse_defs-requires c = begins (seen c.args.s.now) c.requires.few c.requires.short
+pub parse-requires : goal.parse-requires
+parse-requires c = begins (seen c.args.s.now) c.requires.few c.requires.short
 
 pub returns-in-Ok-clause-reads : goal.returns-in-Ok-clause-reads
 returns-in-Ok-clause-reads c = lexed_read (seen c.args.s.now) _ _ _ c.in-Ok.ensures.reads
