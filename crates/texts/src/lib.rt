@@ -95,8 +95,8 @@ fn parse_with<const N: usize>(text: &[u8], out: &mut [u8]) -> Result<State, Stop
     parse_within(text, &mut table, out)
 }
 
-// The table by the text's length. The tables are for texts of up to 256, 1,024 and 4,096 bytes, which have no more tokens than bytes, and for 16,385 tokens:
-// a table is zero at first, and a short text does not wait for a long one's.
+// The table by the text's length. The tables are for texts of up to 256, 1,024 and 4,096 bytes, which have no more tokens than bytes, and
+// for 16,385 tokens: a table is zero at first, and a short text does not wait for a long one's.
 fn parse_plain(text: &[u8], out: &mut [u8]) -> Result<State, Stop>
     requires { length text.now ≤ 65536 }
     ensures reads { Met (parse_text text.now) 0 0 out.old out.new result }

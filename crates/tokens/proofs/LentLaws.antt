@@ -108,26 +108,9 @@ module _ (text : List ℕ) (k b c : ℕ) where
           let z : b ≡ 0 = omega arith in
           t ∙ ap ascii (d ∙ ap (spelled text) z) ∙ sym (eq-eqb b 0 z) ∙ value_none e f p
 
-module _ (text : List ℕ) (end a b c : ℕ) where
-  pub words_none : a / 1152921504606846976 ≡ 0 → false ≡ good_words text end a b c
-  unfolding good_words
-  words_none e = rw (eq-eqb (a / 1152921504606846976) 0 e)
-
-  pub words_kind : (a / 1152921504606846976 ≡ 0 → ⊥) → 5 < a / 1152921504606846976 → false ≡ good_words text end a b c
-  unfolding good_words
-  words_kind e f = rw (ne_eqb (a / 1152921504606846976) 0 e, lt-ltb 5 (a / 1152921504606846976) f)
-
-  pub words_spare : (a / 1152921504606846976 ≡ 0 → ⊥) → a / 1152921504606846976 ≤ 5 → (a / 4294967296 % 268435456 ≡ 0 → ⊥) → false ≡ good_words text end a b c
-  unfolding good_words
-  words_spare e f g = rw (ne_eqb (a / 1152921504606846976) 0 e, le-ltb 5 (a / 1152921504606846976) f, ne_eqb (a / 4294967296 % 268435456) 0 g)
-
-  pub words_place : (a / 1152921504606846976 ≡ 0 → ⊥) → a / 1152921504606846976 ≤ 5 → a / 4294967296 % 268435456 ≡ 0 → end < a % 4294967296 → false ≡ good_words text end a b c
-  unfolding good_words
-  words_place e f g h = rw (ne_eqb (a / 1152921504606846976) 0 e, le-ltb 5 (a / 1152921504606846976) f, eq-eqb (a / 4294967296 % 268435456) 0 g, lt-ltb end (a % 4294967296) h)
-
-  pub words_value : (r : Bool) → (a / 1152921504606846976 ≡ 0 → ⊥) → a / 1152921504606846976 ≤ 5 → a / 4294967296 % 268435456 ≡ 0 → a % 4294967296 ≤ end → r ≡ good_value text (a / 1152921504606846976) b c → r ≡ good_words text end a b c
-  unfolding good_words
-  words_value r e f g h v = v ∙ rw (ne_eqb (a / 1152921504606846976) 0 e, le-ltb 5 (a / 1152921504606846976) f, eq-eqb (a / 4294967296 % 268435456) 0 g, le-ltb end (a % 4294967296) h)
+pub words_value : (text : List ℕ) (end a b c : ℕ) (r : Bool) → (a / 1152921504606846976 ≡ 0 → ⊥) → a / 1152921504606846976 ≤ 5 → a / 4294967296 % 268435456 ≡ 0 → a % 4294967296 ≤ end → r ≡ good_value text (a / 1152921504606846976) b c → r ≡ good_words text end a b c
+unfolding good_words
+words_value text end a b c r e f g h v = v ∙ rw (ne_eqb (a / 1152921504606846976) 0 e, le-ltb 5 (a / 1152921504606846976) f, eq-eqb (a / 4294967296 % 268435456) 0 g, le-ltb end (a % 4294967296) h)
 
 pub good-is : (tokens text : List ℕ) (end i a b c : ℕ) (r : Bool) → a ≡ word_at tokens (i * 24) → b ≡ word_at tokens (i * 24 + 8) → c ≡ word_at tokens (i * 24 + 16) → r ≡ good_words text end a b c → r ≡ good_token tokens text end i
 unfolding good_token

@@ -1,7 +1,7 @@
 -- Laws of tokens: what stands at an index, and what each test tells. Assumes nothing.
-use Prim.Native.Nat.{ℕ, ◌+◌, ◌*◌, ◌/◌, ◌%◌, ◌<◌, ◌≤◌}
+use Prim.Native.Nat.{ℕ, ◌+◌, ◌*◌, ◌/◌, ◌<◌}
 use native.Mathlib.Omega.{arith}
-use mathlib.Core.Path.{◌≡◌, refl, ◌∙◌}
+use mathlib.Core.Path.{◌≡◌, refl}
 use mathlib.Core.List.{List}
 use mathlib.Core.Bool.{Bool, true, false}
 use lib.ListN.{length, get_or}
@@ -18,19 +18,6 @@ pub token-there : (tokens : List ℕ) (end i a b c : ℕ) → i < length tokens 
 unfolding token_at
 token-there tokens end i a b c h p q r = rw (lt-ltb i (length tokens / 24) h, p, q, r)
 
-pub token_past : (tokens : List ℕ) (end i : ℕ) → length tokens / 24 ≤ i → past_last end ≡ token_at tokens end i
-unfolding token_at
-token_past tokens end i h = rw (le-ltb i (length tokens / 24) h)
-
--- the kind alone and the position alone
-pub kind-there : (tokens : List ℕ) (i a : ℕ) → i < length tokens / 24 → a ≡ word_at tokens (i * 24) → a / 1152921504606846976 ≡ kind_at tokens i
-unfolding kind_at
-kind-there tokens i a h p = rw (lt-ltb i (length tokens / 24) h, p)
-
-pub kind_past : (tokens : List ℕ) (i : ℕ) → length tokens / 24 ≤ i → 0 ≡ kind_at tokens i
-unfolding kind_at
-kind_past tokens i h = rw (le-ltb i (length tokens / 24) h)
-
 pub kind-is : (tokens : List ℕ) (end i : ℕ) → kind_at tokens i ≡ (token_at tokens end i).kind
 unfolding kind_at token_at
 kind-is tokens end i = go (ltb i (token_count tokens))
@@ -38,31 +25,6 @@ kind-is tokens end i = go (ltb i (token_count tokens))
     go : (t : Bool) → pick t (word_at tokens (i * 24) / 1152921504606846976) 0 ≡ (pick t (token_of (word_at tokens (i * 24)) (word_at tokens (i * 24 + 8)) (word_at tokens (i * 24 + 16))) (past_last end)).kind
     go true = refl
     go false = refl
-
-pub pos-there : (tokens : List ℕ) (end i a : ℕ) → i < length tokens / 24 → a ≡ word_at tokens (i * 24) → a % 4294967296 ≡ (token_at tokens end i).pos
-unfolding token_at
-pos-there tokens end i a h p = rw (lt-ltb i (length tokens / 24) h, p)
-
-pub pos_past : (tokens : List ℕ) (end i : ℕ) → length tokens / 24 ≤ i → end ≡ (token_at tokens end i).pos
-unfolding token_at
-pos_past tokens end i h = rw (le-ltb i (length tokens / 24) h)
-
--- the code of is_const and is_word
-pub const_symbol : (text : List ℕ) (t : Token) (p : List ℕ) (x : ℕ) → t.kind ≡ 3 → p ≡ spelled text t.word1 → x ≡ get_or p 0 0 → eqb x 36 ≡ is_const text t
-unfolding is_const
-const_symbol text t p x k e f = rw (f, e, eq-eqb t.kind 3 k)
-
-pub const_other : (text : List ℕ) (t : Token) → (t.kind ≡ 3 → ⊥) → false ≡ is_const text t
-unfolding is_const
-const_other text t k = rw (ne_eqb t.kind 3 k)
-
-pub word-symbol : (text w : List ℕ) (t : Token) (p : List ℕ) (r : Bool) → t.kind ≡ 3 → p ≡ spelled text t.word1 → r ≡ same_bytes p w → r ≡ is_word text w t
-unfolding is_word
-word-symbol text w t p r k e f = f ∙ rw (e, eq-eqb t.kind 3 k)
-
-pub word-other : (text w : List ℕ) (t : Token) → (t.kind ≡ 3 → ⊥) → false ≡ is_word text w t
-unfolding is_word
-word-other text w t k = rw (ne_eqb t.kind 3 k)
 
 -- a token of a kind stands inside the list
 pub kind-inside : (tokens : List ℕ) (end i k : ℕ) → (token_at tokens end i).kind ≡ k → 0 < k → i < token_count tokens
