@@ -4,11 +4,13 @@
 pub mod depth;
 pub mod judge;
 pub mod scans;
+mod stack;
 pub mod table;
 
 ghost use Rattle.std.specs.Prelude.{◌≡◌, ◌<◌, eqb};
 ghost use Rattle.forms.specs.Sorts.{number};
-ghost use Rattle.forms.specs.Forms.{placed};
+ghost use Rattle.forms.specs.Table.{columns_of};
+ghost use Rattle.forms.specs.Forms.{placed, singles};
 ghost use Rattle.forms.specs.Depth.{is_level};
 
 // What may stand in a place, by the names of ast.rs. The numbers are those of the rows of specs/Kinds.antt.
@@ -52,11 +54,7 @@ impl Sort {
     fn is_level(self) -> bool
         ensures { result ≡ is_level (number self) }
     {
-        match self {
-            Sort::Pattern => true,
-            Sort::Expression => true,
-            _ => false,
-        }
+        matches!(self, Sort::Pattern | Sort::Expression)
     }
 
     // Whether s, from the stack, is this sort at the place p.
@@ -83,7 +81,7 @@ pub enum Words {
 // their words hold; then their children: three single ones, any number of a sort, a last one.
 #[derive(Clone, Copy)]
 pub struct Row {
-    pub sort: Option<Sort>,
+    pub sort: Sort,
     pub flags: u8,
     pub position: bool,
     pub words: Words,
@@ -92,4 +90,16 @@ pub struct Row {
     pub third: Option<Sort>,
     pub any: Option<Sort>,
     pub last: Option<Sort>,
+}
+
+impl Row {
+    // How many single children it has.
+    fn singles(self) -> usize
+        ensures { result ≡ singles (columns_of self) }
+    {
+        self.first.is_some() as usize
+            + self.second.is_some() as usize
+            + self.third.is_some() as usize
+            + self.last.is_some() as usize
+    }
 }
