@@ -122,14 +122,6 @@ singles_of w = refl
 
 -- ---- positions and words
 
-pub position_any : (p : Bool) (x : ℕ) → p ≡ true → p ≡ position_ok (position_of p) x
-unfolding position_ok
-position_any p x e = rw e
-
-pub position_none : (p : Bool) (x : ℕ) → p ≡ false → eqb x 0 ≡ position_ok (position_of p) x
-unfolding position_ok
-position_none p x e = rw e
-
 and_true : (b : Bool) → b ≡ b and true
 unfolding ◌and◌
 and_true true = refl

@@ -40,13 +40,13 @@ table-row i k f d h r = cell ROWS (4 + kinds_end) 0 i i d rows_are h (omega arit
 
 -- ---- which row a record has
 
-pub row-rule : (k f : ℕ) → k ≡ 20 → f < 4 → row_at f ≡ row_for k f
+pub row_rule : (k f : ℕ) → k ≡ 20 → f < 4 → row_at f ≡ row_for k f
 unfolding row_at row_for
-row-rule k f n h = rw (n, lt-ltb f 4 h)
+row_rule k f n h = rw (n, lt-ltb f 4 h)
 
-pub row-kind : (k f : ℕ) → (k ≡ 20 → ⊥) → row_at (4 + k) ≡ row_for k f
+pub row_kind : (k f : ℕ) → (k ≡ 20 → ⊥) → row_at (4 + k) ≡ row_for k f
 unfolding row_at row_for
-row-kind k f h =
+row_kind k f h =
     let e : 4 + k - 4 ≡ k = omega arith in
     rw (le-ltb (4 + k) 4 (omega arith), e, ne_eqb k 20 h)
 

@@ -49,6 +49,7 @@ impl Levels {
     }
 
     // Whether a pattern or expression inside these levels is at depth 65.
+    #[tactic(auto, using(crate::proofs::DepthTurns::deep_level, crate::proofs::DepthTurns::deep_plain))]
     fn is_too_deep(&self, level: bool) -> bool
         ensures { result ≡ (level and eqb self.now.depth 64) }
     {

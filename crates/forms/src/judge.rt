@@ -14,6 +14,7 @@ use records::{rec_at, slots};
 use trees::{Kind, Rec};
 
 // A position, where there is one; else 0.
+#[tactic(auto, unfolding(crate::specs::Forms::position_ok))]
 fn position_ok(position: bool, x: u32) -> bool
     ensures { result ≡ position_ok (position_of position) x }
 {
@@ -28,6 +29,7 @@ fn in_text(t: usize, range: u64) -> bool
 }
 
 // What words 1 and 2 hold, with a text of t bytes.
+#[tactic(auto, using(crate::proofs::JudgeLaws::words_empty, crate::proofs::JudgeLaws::words_not_empty, crate::proofs::JudgeLaws::words_index, crate::proofs::JudgeLaws::words_integer, crate::proofs::JudgeLaws::words_range, crate::proofs::JudgeLaws::words_not_range))]
 fn words_ok(t: usize, words: Words, a: u64, b: u64) -> bool
     ensures { result ≡ words_ok t (words_of words) a b }
 {
@@ -61,6 +63,7 @@ struct Lent<'a> {
 impl Lent<'_> {
     // Whether the record at slot i is an Ident that may stand where the sort s is expected: every third record or so is one, and it has no
     // children. What is expected is asked first, so that the record is not taken apart for nothing.
+    #[tactic(auto, using(crate::proofs::JudgeLaws::name_taken))]
     fn is_name(&self, i: usize, s: u32) -> bool
         requires { i < slots self.now.records.now }
         ensures { NameTaken self.now.text s (rec_at self.now.records.now i) result }
@@ -77,6 +80,7 @@ impl Lent<'_> {
     }
 
     // Whether the record at slot i is a Var that may stand where the sort s is expected: its one child is a name.
+    #[tactic(auto, using(crate::proofs::JudgeLaws::var_taken))]
     fn is_var(&self, i: usize, s: u32) -> bool
         requires { i < slots self.now.records.now }
         ensures { VarTaken s (rec_at self.now.records.now i) result }

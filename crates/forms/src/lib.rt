@@ -40,6 +40,7 @@ impl Sort {
 
     // What stands on the stack where this sort is expected at the place p among its parent's children: its number, and a TupleField's
     // place, so that only the record with that index may stand there.
+    #[tactic(auto, using(crate::proofs::JudgeLaws::placed_field, crate::proofs::JudgeLaws::placed_other))]
     fn placed(self, p: usize) -> u32
         requires { p < 65536 }
         ensures { result ≡ placed (number self) p }
@@ -58,6 +59,7 @@ impl Sort {
     }
 
     // Whether s, from the stack, is this sort at the place p.
+    #[tactic(auto, using(crate::proofs::JudgeLaws::is_field, crate::proofs::JudgeLaws::is_far, crate::proofs::JudgeLaws::is_other))]
     fn is_placed(self, s: u32, p: u64) -> bool
         ensures { result ≡ eqb s (placed (number self) p) }
     {

@@ -104,6 +104,7 @@ static ROWS: [Option<Row>; 51] = [
 ];
 
 // The number of the row of a record's kind and flags.
+#[tactic(auto, using(crate::proofs::TableLaws::row_rule, crate::proofs::TableLaws::row_kind, crate::proofs::TableLaws::row_past, crate::proofs::TableLaws::row_bad_flags))]
 fn row_number(kind: u8, flags: u8) -> usize
     ensures in_table { result < 4 + kinds_end }
     ensures row { row_at result ≡ row_for kind flags }
