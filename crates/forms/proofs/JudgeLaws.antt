@@ -116,10 +116,6 @@ pub singles_are : (w : Row) (a b c d : Bool) → a ≡ is_some w.first → b ≡
 unfolding singles
 singles_are w a b c d p q r s = rw (child w.first a p, child w.second b q, child w.third c r, child w.last d s)
 
-pub singles_of : (w : Columns) → some w.first + some w.second + some w.third + some w.last ≡ singles w
-unfolding singles
-singles_of w = refl
-
 -- ---- positions and words
 
 and_true : (b : Bool) → b ≡ b and true

@@ -56,11 +56,6 @@ pub left-none : (s : List ℕ) (n : ℕ) → n ≡ 0 → pending s n ≡ rest (p
 unfolding pending
 left-none s n e = rw e
 
-pub pending-rest : (s : List ℕ) (n : ℕ) → rest (pending s n) ≡ pending s (n - 1)
-unfolding pending
-pending-rest s zero = refl
-pending-rest s (suc n) = let e : suc n - 1 ≡ n = omega arith in rw e
-
 -- ---- pushes
 
 one_of : (x : Sort) → one (number x) ≡ number x ∷ []

@@ -63,6 +63,7 @@ fn parameter_at(text: &[u8], pattern: &[u8], i: usize, params: &[u8]) -> Option<
 }
 
 // A Var's name is left out, a Bind's name and Wildcard.
+#[tactic(auto, using(crate::proofs::MakeLaws::after_var, crate::proofs::MakeLaws::after_bind))]
 fn after_parameter(kind: u8, i: usize) -> usize
     requires { i ≤ 65536 }
     ensures { result ≡ after_parameter kind i }

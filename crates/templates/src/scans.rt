@@ -8,6 +8,7 @@ use forms::scans::first_where;
 use trees::{Kind, Rec};
 
 // Whether r is a MacroArg with none of n patterns at its index.
+#[tactic(auto, using(crate::proofs::ScanLaws::lacks_arg, crate::proofs::ScanLaws::lacks_other))]
 fn lacks_pattern(r: Rec, n: usize) -> bool
     ensures { result ≡ lacks_pattern n r }
 {

@@ -41,6 +41,7 @@ fn find_starts(patterns: &[u8], starts: &mut [u32]) -> usize
 
 impl<'a> Patterns<'a> {
     // Where the pattern k starts, or where the last one ends.
+    #[tactic(auto, using(crate::proofs::FillLaws::start_in, crate::proofs::FillLaws::start_last))]
     fn start_of(&self, k: usize) -> usize
         ensures { result ≡ start_of self.now.starts.now (length self.now.starts.now) (slots self.now.records.now) k }
     {
@@ -62,6 +63,7 @@ impl<'a> Patterns<'a> {
     }
 
     // Appends what the record at slot i of the template becomes: itself, or the pattern at its index.
+    #[tactic(auto, using(crate::proofs::FillLaws::arg_below, crate::proofs::FillLaws::filled_arg, crate::proofs::FillLaws::filled_copy))]
     fn append_filled(&self, template: &[u8], i: usize, out: &mut Output) -> Result<(), Refused>
         requires args_below { ArgsBelow template.now (length self.now.starts.now) }
         requires there { i < slots template.now }
