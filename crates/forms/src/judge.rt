@@ -96,8 +96,8 @@ impl Lent<'_> {
             && r.word2 == 0
     }
 
-    // Takes the record at slot i where the sort s is expected, and puts its children on the stack. Not so where the record may not stand there
-    // or where fewer than the expected ones are left after it.
+    // Takes the record at slot i where the sort s is expected, and puts its children on the stack. Not so where the record may not stand
+    // there or where fewer than the expected ones are left after it.
     fn take(&self, i: usize, s: u32, stack: &mut Stack, left: usize) -> bool
         requires there { i < slots self.now.records.now }
         requires below_left { stack.old.top ≤ left }

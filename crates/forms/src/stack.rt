@@ -8,8 +8,8 @@ ghost use Rattle.forms.specs.Stack.{held, Pushed, Room};
 use crate::{Row, Sort};
 
 // The sorts that are expected: those below `top`, the one expected next last.
-// Kept: a sort is a number here, with a TupleField's place in it. The promise speaks of these numbers (`fits`), and one comparison of 32 bits
-// tells whether a record may stand there: a struct of the two would be no plainer.
+// Kept: a sort is a number here, with a TupleField's place in it. The promise speaks of these numbers (`fits`), and one comparison of 32
+// bits tells whether a record may stand there: a struct of the two would be no plainer.
 #[derive(Drop)]
 pub(crate) struct Stack<'a> {
     pub(crate) sorts: &'a mut [u32],

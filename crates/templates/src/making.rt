@@ -88,8 +88,8 @@ fn argument(pos: u32, k: usize) -> Rec
     }
 }
 
-// Appends the template: of each record a copy, or a MacroArg for what stands for a parameter. Each way reads the record itself: of what a copy
-// wants all of, a MacroArg wants little.
+// Appends the template: of each record a copy, or a MacroArg for what stands for a parameter. Each way reads the record itself: of what a
+// copy wants all of, a MacroArg wants little.
 fn make(text: &[u8], pattern: &[u8], params: &[u8], out: &mut Output) -> Result<(), Refused>
     requires few { slots pattern.now ≤ 65536 }
     requires params { Params params.now }

@@ -54,6 +54,7 @@ impl<'a> Output<'a> {
         if self.room - self.written < upto - from {
             return Err(Refused::NoSpace);
         }
+        // Kept: a copy of bytes would ask in each contract of an output that its room lies in the lent bytes, which `put` does not ask.
         for i in from..upto {
             put(self.bytes, self.written, rec_at(list, i));
             self.written += 1;
