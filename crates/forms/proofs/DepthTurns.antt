@@ -14,12 +14,12 @@ use borrow.Author.Tests.{eq-eqb, ne_eqb, eqb-true, eqb-false}
 use Rattle.trees.specs.declared.Rec.{Rec}
 use Rattle.trees.specs.Choice.{pick}
 use Rattle.records.specs.Slots.{slots, rec_at, recs}
-use Rattle.std.specs.Prelude.{Some, None}
+use Rattle.std.specs.Prelude.{Option, Some, None, MatchOption}
 use Rattle.forms.specs.declared.Row.{Row}
 use Rattle.forms.specs.declared.Sort.{Sort}
 use Rattle.forms.specs.declared.Sort.TheVariants.{Pattern, Expression, LetDef, Ident, Definition, TypeValue, Variant, Fields, StructField, TupleField, AttrKind, Priority, IfLet}
 use Rattle.forms.specs.Sorts.{number}
-use Rattle.forms.specs.Table.{columns_of}
+use Rattle.forms.specs.Table.{columns_if}
 use Rattle.forms.specs.Tests.{◌and◌}
 use Rattle.forms.specs.Kinds.{row_for}
 use Rattle.forms.specs.Stack.{pending}
@@ -27,14 +27,13 @@ use Rattle.forms.specs.Lists.{left, first_is}
 use Rattle.forms.specs.Depth.{is_level, settle, read_one, expect, enter, flat_depths, first_deep_in, Small}
 use Rattle.forms.proofs.TestLaws.{true_and, false_and}
 use Rattle.forms.proofs.ListLaws.{left-more, left-none, left-all}
-use Rattle.forms.proofs.StackLaws.{pending-set, pending_push, length-pending}
+use Rattle.forms.proofs.StackLaws.{pending_top, pending-set, pending_push, length-pending}
 
-pub sort_level : (k f : ℕ) (w : Row) (s : Sort) (b : Bool) → columns_of w ≡ row_for k f → w.sort ≡ Some s → b ≡ is_level (number s) → b ≡ is_level (row_for k f).sort
-sort_level k f w s b e h g = rw (← e, h) g
-
-pub no_level : (k f : ℕ) (w : Row) → columns_of w ≡ row_for k f → w.sort ≡ None → false ≡ is_level (row_for k f).sort
+-- a record's level by its row, and by what a closure answers at one
+pub row_level : (o : Option Row) (k f : ℕ) (b : Bool) (P : Row → Type 0) → columns_if o ≡ row_for k f → MatchOption o (b ≡ false) P → ((w : Row) → P w → b ≡ is_level (number w.sort)) → b ≡ is_level (row_for k f).sort
 unfolding is_level
-no_level k f w e h = rw (← e, h)
+row_level None k f b P e m g = m ∙ rw (← e)
+row_level (Some w) k f b P e m g = g w m ∙ rw (← e)
 
 pub a_level : (s : Sort) → s ≡ Pattern → true ≡ is_level (number s)
 unfolding is_level
@@ -61,11 +60,6 @@ no_level_sort Priority p q = refl
 no_level_sort IfLet p q = refl
 
 -- ---- leaving levels that expect nothing
-
-pending_top : (s : List ℕ) (d : ℕ) → (d ≡ 0 → ⊥) → pending s d ≡ get_or s (d - 1) 0 ∷ pending s (d - 1)
-unfolding pending
-pending_top s zero h = absurd (h refl)
-pending_top s (suc d) h = let e : suc d - 1 ≡ d = omega arith in rw e
 
 settle_keeps : (n : ℕ) (ns : List ℕ) → (n ≡ 0 → ⊥) → settle (n ∷ ns) ≡ n ∷ ns
 unfolding settle
@@ -119,12 +113,12 @@ pub small_start : (s : List ℕ) → Small (65536 * 0) (pending s 0)
 unfolding Small pending
 small_start s = tt
 
-pub small_now : (s list : List ℕ) (i n depth d : ℕ) → pending s d ≡ settle (pending s depth) → Small (65536 * i) (pending s depth) → n ≡ slots list → i < n → slots list ≤ 65536 → Small 4294967296 (pending s d)
-small_now s list i n depth d e p q h k = rw e (small_wide (65536 * i) 4294967296 _ (omega arith) (small-settle (65536 * i) (pending s depth) p))
+pub small_now : (list ns ms : List ℕ) (i n : ℕ) → ms ≡ settle ns → Small (65536 * i) ns → n ≡ slots list → i < n → slots list ≤ 65536 → Small 4294967296 ms
+small_now list ns ms i n e p q h k = rw e (small_wide (65536 * i) 4294967296 _ (omega arith) (small-settle (65536 * i) ns p))
 
-pub small_again : (s s' : List ℕ) (i depth d top c : ℕ) (l : Bool) → pending s' top ≡ enter l c (read_one (pending s d)) → pending s d ≡ settle (pending s depth) → Small (65536 * i) (pending s depth) → c < 65536 → Small (65536 * (i + 1)) (pending s' top)
-small_again s s' i depth d top c l e f p h =
-    rw (e, f) (small-enter l (65536 * i) (65536 * (i + 1)) c (settle (pending s depth)) (omega arith) (small-settle (65536 * i) (pending s depth) p))
+pub small_again : (ns ms out : List ℕ) (i c : ℕ) (l : Bool) → out ≡ enter l c (read_one ms) → ms ≡ settle ns → Small (65536 * i) ns → c < 65536 → Small (65536 * (i + 1)) out
+small_again ns ms out i c l e f p h =
+    rw (e, f) (small-enter l (65536 * i) (65536 * (i + 1)) c (settle ns) (omega arith) (small-settle (65536 * i) ns p))
 
 -- ---- one tree read
 
@@ -145,8 +139,8 @@ unfolding expect
 zero_more [] = refl
 zero_more (n ∷ ns) = ap (◌∷ ns) (add-zero n)
 
-pub enter_level : (s s₁ : List ℕ) (d c : ℕ) → pending s₁ d ≡ expect 0 (read_one (pending s d)) → d < length s → length s₁ ≡ length s → pending (set s₁ d c) (d + 1) ≡ c ∷ read_one (pending s d)
-enter_level s s₁ d c e h k = pending_push s₁ d c (omega arith) ∙ ap (c ∷◌) (e ∙ zero_more (read_one (pending s d)))
+pub enter_level : (s s' : List ℕ) (d e c : ℕ) → pending s' e ≡ expect 0 (read_one (pending s d)) → e < length s' → pending (set s' e c) (e + 1) ≡ c ∷ read_one (pending s d)
+enter_level s s' d e c p h = pending_push s' e c h ∙ ap (c ∷◌) (p ∙ zero_more (read_one (pending s d)))
 
 -- ---- a level is entered, or not
 
@@ -156,13 +150,10 @@ deep_level l d e = rw (e, true_and)
 pub deep_plain : (l : Bool) (d : ℕ) → l ≡ false → l ≡ (l and eqb d 64)
 deep_plain l d e = rw (e, false_and)
 
-pub step_room : (l : Bool) (d n : ℕ) → l ≡ true → (l and eqb d 64) ≡ false → d ≤ 64 → 64 ≤ n → d < n
-step_room l d n e f h k =
+pub step_room : (l : Bool) (d : ℕ) → l ≡ true → (l and eqb d 64) ≡ false → d ≤ 64 → d < 64
+step_room l d e f h =
     let g : d ≡ 64 → ⊥ = eqb-false d 64 (deep_level l d e ∙ f) in
     omega arith
-
-pub step_top : (l : Bool) (d : ℕ) → l ≡ true → (l and eqb d 64) ≡ false → d ≤ 64 → d + 1 ≤ 64
-step_top l d e f h = omega (arith, step_room l d 64 e f h (omega arith))
 
 pub step_level : (l : Bool) (c : ℕ) (ns out : List ℕ) → out ≡ c ∷ read_one ns → l ≡ true → out ≡ enter l c (read_one ns)
 unfolding enter
@@ -195,23 +186,23 @@ not_deep : (l : Bool) (d : ℕ) → (l and eqb d 64) ≡ false → pick l (suc d
 not_deep true d e q = eqb-false d 64 (rw (true_and (eqb d 64)) at e) (omega arith)
 not_deep false d e q = omega arith
 
-module _ (list counts : List ℕ) (depth d i n f : ℕ) (r : Rec) (l b : Bool)
-    (read : r ≡ rec_at list i) (level : l ≡ is_level (row_for r.kind r.flags).sort) (open-levels : pending counts d ≡ settle (pending counts depth)) (judged : b ≡ (l and eqb d 64))
-    (inv : i + first_is 65 (flat_depths (pending counts depth) (left list i)) ≡ f) (all : n ≡ slots list) (more : i < n) where
-  turn : flat_depths (pending counts depth) (left list i) ≡ pick l (suc d) 0 ∷ flat_depths (enter l r.count (read_one (pending counts d))) (left list (i + 1))
+module _ (list ns counts : List ℕ) (d i n f : ℕ) (r : Rec) (l b : Bool)
+    (read : r ≡ rec_at list i) (level : l ≡ is_level (row_for r.kind r.flags).sort) (settled : pending counts d ≡ settle ns) (judged : b ≡ (l and eqb d 64))
+    (inv : i + first_is 65 (flat_depths ns (left list i)) ≡ f) (all : n ≡ slots list) (more : i < n) where
+  turn : flat_depths ns (left list i) ≡ pick l (suc d) 0 ∷ flat_depths (enter l r.count (read_one (pending counts d))) (left list (i + 1))
   unfolding flat_depths
   turn =
       let h : i < slots list = omega arith in
-      rw (left-more list i h, ← read, ← level, ← open-levels, length-pending counts d)
+      rw (left-more list i h, ← read, ← level, ← settled, length-pending counts d)
 
   pub deep_here : b ≡ true → i ≡ f
   deep_here e =
-      let z : first_is 65 (flat_depths (pending counts depth) (left list i)) ≡ 0 = rw turn (first-is (pick l (suc d) 0) _ (is-deep l d (sym judged ∙ e))) in
+      let z : first_is 65 (flat_depths ns (left list i)) ≡ 0 = rw turn (first-is (pick l (suc d) 0) _ (is-deep l d (sym judged ∙ e))) in
       omega arith
 
-  pub deep_again : (counts' : List ℕ) (top : ℕ) → pending counts' top ≡ enter l r.count (read_one (pending counts d)) → b ≡ false → i + 1 + first_is 65 (flat_depths (pending counts' top) (left list (i + 1))) ≡ f
-  deep_again counts' top q e =
-      let z : first_is 65 (flat_depths (pending counts depth) (left list i)) ≡ suc (first_is 65 (flat_depths (pending counts' top) (left list (i + 1)))) =
+  pub deep_again : (out : List ℕ) → out ≡ enter l r.count (read_one (pending counts d)) → b ≡ false → i + 1 + first_is 65 (flat_depths out (left list (i + 1))) ≡ f
+  deep_again out q e =
+      let z : first_is 65 (flat_depths ns (left list i)) ≡ suc (first_is 65 (flat_depths out (left list (i + 1)))) =
       rw (turn, q) (first_not (pick l (suc d) 0) _ (not_deep l d (sym judged ∙ e))) in
       omega arith
 

@@ -1,12 +1,12 @@
 -- The ways through the tests of one record, in the code's terms. Assumes nothing.
 use mathlib.Core.Path.{◌≡◌, refl, sym, ap, ◌∙◌}
-use mathlib.Core.Bool.{Bool, true, false, not}
-use Prim.Native.Nat.{ℕ, zero, suc, ◌+◌, ◌*◌, ◌/◌, ◌%◌, ◌≤◌, ◌<◌}
+use mathlib.Core.Bool.{Bool, true, false}
+use Prim.Native.Nat.{ℕ, ◌+◌, ◌*◌, ◌/◌, ◌%◌, ◌≤◌, ◌<◌}
 use native.Mathlib.Omega.{arith}
 use lib.Dec.{eqb, ltb, leb}
 use mir.Val.{bool_byte}
-use borrow.Author.Tests.{ne_eqb, ltb-true, lt-ltb, le-ltb, not-true, not-false}
-use Rattle.std.specs.Prelude.{Option, Some, None, is_some}
+use borrow.Author.Tests.{ne_eqb, eqb-true, lt-ltb, le-ltb}
+use Rattle.std.specs.Prelude.{Option, Some, None, MatchOption, is_some}
 use Rattle.trees.specs.declared.Rec.{Rec}
 use Rattle.forms.specs.declared.Sort.{Sort}
 use Rattle.forms.specs.declared.Sort.TheVariants.{Pattern, Expression, LetDef, Ident, Definition, TypeValue, Variant, Fields, StructField, TupleField, AttrKind, Priority, IfLet}
@@ -57,9 +57,31 @@ module _ (s : Sort) (x n : ℕ) where
   pub is_other : (y : ℕ) → (s ≡ TupleField → ⊥) → y ≡ number s → eqb x y ≡ eqb x (placed (number s) n)
   is_other y e f = ap (eqb x) (placed_other s n y e f)
 
-pub placed_none : (o : Option Sort) (n : ℕ) → o ≡ None → 0 ≡ placed (sort_of o) n
+placed_some : (s : Sort) (n : ℕ) → 0 < placed (number s) n
 unfolding placed
-placed_none o n e = rw e
+placed_some Pattern n = omega arith
+placed_some Expression n = omega arith
+placed_some LetDef n = omega arith
+placed_some Ident n = omega arith
+placed_some Definition n = omega arith
+placed_some TypeValue n = omega arith
+placed_some Variant n = omega arith
+placed_some Fields n = omega arith
+placed_some StructField n = omega arith
+placed_some TupleField n = omega arith
+placed_some AttrKind n = omega arith
+placed_some Priority n = omega arith
+placed_some IfLet n = omega arith
+
+-- the number of a sort that there may be none of, by what a closure answers
+pub child_is : (o : Option Sort) (p v : ℕ) (P : Sort → Type 0) → MatchOption o (v ≡ 0) P → ((x : Sort) → P x → v ≡ placed (number x) p) → v ≡ placed (sort_of o) p
+unfolding placed
+child_is None p v P e f = e
+child_is (Some x) p v P e f = f x e
+
+pub number_is : (o : Option Sort) (v : ℕ) (P : Sort → Type 0) → MatchOption o (v ≡ 0) P → ((x : Sort) → P x → v ≡ number x) → v ≡ sort_of o
+number_is None v P e f = e
+number_is (Some x) v P e f = f x e
 
 -- a child, or none
 pub some_one : (o : Option Sort) (s : Sort) → o ≡ Some s → 1 ≡ some (sort_of o)
@@ -94,19 +116,7 @@ pub singles_are : (w : Row) (a b c d : Bool) → a ≡ is_some w.first → b ≡
 unfolding singles
 singles_are w a b c d p q r s = rw (child w.first a p, child w.second b q, child w.third c r, child w.last d s)
 
-pub singles_of : (w : Columns) → some w.first + some w.second + some w.third + some w.last ≡ singles w
-unfolding singles
-singles_of w = refl
-
 -- ---- positions and words
-
-pub position_any : (p : Bool) (x : ℕ) → p ≡ true → p ≡ position_ok (position_of p) x
-unfolding position_ok
-position_any p x e = rw e
-
-pub position_none : (p : Bool) (x : ℕ) → p ≡ false → eqb x 0 ≡ position_ok (position_of p) x
-unfolding position_ok
-position_none p x e = rw e
 
 and_true : (b : Bool) → b ≡ b and true
 unfolding ◌and◌
@@ -130,68 +140,55 @@ module _ (t a b : ℕ) (w : Words) where
   unfolding words_ok
   words_integer e = rw e
 
-  pub words_range : w ≡ Range → b ≡ 0 → leb (a / 4294967296 + a % 4294967296) t ≡ words_ok t (words_of w) a b
+  pub words_range : (y : Bool) → y ≡ leb (a / 4294967296 + a % 4294967296) t → w ≡ Range → b ≡ 0 → y ≡ words_ok t (words_of w) a b
   unfolding words_ok
-  words_range e f = rw (e, f, true_and)
+  words_range y g e f = g ∙ rw (e, f, true_and)
 
   pub words_not_range : w ≡ Range → (b ≡ 0 → ⊥) → eqb b 0 ≡ words_ok t (words_of w) a b
   unfolding words_ok
   words_not_range e f = rw (e, ne_eqb b 0 f, false_and)
 
 module _ (t s : ℕ) (w : Columns) (r : Rec) where
-  pub stands_nowhere : s ≡ 0 → false ≡ stands t s w r
-  unfolding stands
-  stands_nowhere e = rw (le-ltb 0 s (omega arith), false_and)
-
-  pub stands_other : (b : Bool) → b ≡ eqb s (placed w.sort r.word1) → not b ≡ true → false ≡ stands t s w r
-  unfolding stands
-  stands_other b e f = rw (← e, not-true b f, false_and, and_false)
-
   pub stands_flags : w.flags ≤ r.flags → false ≡ stands t s w r
   unfolding stands
   stands_flags h = rw (le-ltb r.flags w.flags h, false_and, and_false, and_false)
 
-  pub stands_position : (b : Bool) → b ≡ position_ok w.position r.pos → not b ≡ true → false ≡ stands t s w r
+  pub stands_position : (b : Bool) → b ≡ position_ok w.position r.pos → b ≡ false → false ≡ stands t s w r
   unfolding stands
-  stands_position b e f = rw (← e, not-true b f, false_and, and_false, and_false, and_false)
+  stands_position b e f = rw (← e, f, false_and, and_false, and_false, and_false)
 
-  pub stands_words : (b : Bool) → b ≡ words_ok t w.words r.word1 r.word2 → not b ≡ true → false ≡ stands t s w r
+  pub stands_words : (b : Bool) → b ≡ words_ok t w.words r.word1 r.word2 → b ≡ false → false ≡ stands t s w r
   unfolding stands
-  stands_words b e f = rw (← e, not-true b f, false_and, and_false, and_false, and_false, and_false)
+  stands_words b e f = rw (← e, f, false_and, and_false, and_false, and_false, and_false)
 
-  pub stands_all : (x y z : Bool) (n : ℕ) → x ≡ eqb s (placed w.sort r.word1) → y ≡ position_ok w.position r.pos → z ≡ words_ok t w.words r.word1 r.word2 → n ≡ singles w →
-      (s ≡ 0 → ⊥) → not x ≡ false → r.flags < w.flags → not y ≡ false → not z ≡ false → leb n r.count ≡ stands t s w r
+-- a sort stands only where its number and place are expected
+module _ (t s : ℕ) (w : Row) (r : Rec) (x : Bool) (same : x ≡ eqb s (placed (number w.sort) r.word1)) where
+  pub stands_other : x ≡ false → false ≡ stands t s (columns_of w) r
   unfolding stands
-  stands_all x y z n e f g h a b c d i =
-      rw (lt-ltb 0 s (omega arith), true_and, ← e, not-false x b, true_and, lt-ltb r.flags w.flags c, true_and, ← f, not-false y d, true_and, ← g, not-false z i, true_and, h)
+  stands_other e = rw (← same, e, false_and, and_false)
 
--- a row without a sort stands nowhere
-pub stands_unsorted : (t s : ℕ) (w : Row) (r : Rec) → w.sort ≡ None → false ≡ stands t s (columns_of w) r
-unfolding stands placed
-stands_unsorted t zero w r e = rw (e, false_and)
-stands_unsorted t (suc s) w r e = rw (e, ne_eqb (suc s) 0 (λ q. omega arith), false_and, and_false)
-
--- a row's sort is that of its number
-pub sort_is : (w : Row) (k : Sort) (s n : ℕ) (b : Bool) → w.sort ≡ Some k → b ≡ eqb s (placed (number k) n) → b ≡ eqb s (placed (columns_of w).sort n)
-sort_is w k s n b e f = rw e f
+  pub stands_all : (y z : Bool) (n : ℕ) → y ≡ position_ok (position_of w.position) r.pos → z ≡ words_ok t (words_of w.words) r.word1 r.word2 → n ≡ singles (columns_of w) →
+      x ≡ true → r.flags < w.flags → y ≡ true → z ≡ true → leb n r.count ≡ stands t s (columns_of w) r
+  unfolding stands
+  stands_all y z n f g h b c d i =
+      let k : 0 < s = rw (eqb-true s (placed (number w.sort) r.word1) (sym same ∙ b)) (placed_some w.sort r.word1) in
+      rw (lt-ltb 0 s k, true_and, ← same, b, true_and, lt-ltb r.flags w.flags c, true_and, ← f, d, true_and, ← g, i, true_and, h)
 
 -- an Ident where one is expected
 name_good : (t s : ℕ) (r : Rec) → s ≡ 4 → r.kind ≡ 24 → r.flags ≡ 0 → r.count ≡ 0 → r.word2 ≡ 0
-    → NameTaken t s r (leb (r.word1 / 4294967296 + r.word1 % 4294967296) t)
+    → (b : Bool) → b ≡ leb (r.word1 / 4294967296 + r.word1 % 4294967296) t → NameTaken t s r b
 unfolding stands row_for find rows placed position_ok words_ok singles some sorts_of leading run one ◌and◌
-name_good t s r e k f c w = record { stands = λ y. rw (k, e, f, c, w, y); childless = λ y. rw (k, c) }
+name_good t s r e k f c w b g = record { stands = λ y. rw (k, e, f, c, w, ← g, y); childless = λ y. rw (k, c) }
 
-pub name_taken : (t s : ℕ) (r q : Rec) → r ≡ q → s ≡ 4 → r.kind ≡ 24 → r.flags ≡ 0 → r.count ≡ 0 → r.word2 ≡ 0
-    → NameTaken t s q (leb (r.word1 / 4294967296 + r.word1 % 4294967296) t)
-name_taken t s r q read e k f c w = rw (← read) (name_good t s r e k f c w)
+pub name_taken : (t s : ℕ) (r q : Rec) (b : Bool) → r ≡ q → b ≡ leb (r.word1 / 4294967296 + r.word1 % 4294967296) t → s ≡ 4 → r.kind ≡ 24 → r.flags ≡ 0 → r.count ≡ 0 → r.word2 ≡ 0
+    → NameTaken t s q b
+name_taken t s r q b read g e k f c w = rw (← read) (name_good t s r e k f c w b g)
 
 -- a Var where a pattern is expected
-var_good : (below left s : ℕ) (r : Rec) → s ≡ 1 → r.kind ≡ 30 → r.flags ≡ 0 → r.count ≡ 1 → r.word1 ≡ 0 → r.word2 ≡ 0
-    → VarTaken below left s r (ltb below left)
+var_good : (s : ℕ) (r : Rec) → s ≡ 1 → r.kind ≡ 30 → r.flags ≡ 0 → r.count ≡ 1 → r.word1 ≡ 0 → (b : Bool) → b ≡ eqb r.word2 0 → VarTaken s r b
 unfolding stands row_for find rows placed position_ok words_ok singles some sorts_of leading run one ◌and◌
-var_good below left s r e k f c a b =
-    record { stands = λ t y. rw (k, e, f, c, a, b); child = λ y. rw (k, c); room = λ y. ltb-true below left y }
+var_good s r e k f c a b g =
+    record { stands = λ t y. let z : r.word2 ≡ 0 = eqb-true r.word2 0 (sym g ∙ y) in rw (k, e, f, c, a, z); child = λ y. rw (k, c) }
 
-pub var_taken : (below left s : ℕ) (r q : Rec) → r ≡ q → s ≡ 1 → r.kind ≡ 30 → r.flags ≡ 0 → r.count ≡ 1 → r.word1 ≡ 0 → r.word2 ≡ 0
-    → VarTaken below left s q (ltb below left)
-var_taken below left s r q read e k f c a b = rw (← read) (var_good below left s r e k f c a b)
+pub var_taken : (s : ℕ) (r q : Rec) → r ≡ q → s ≡ 1 → r.kind ≡ 30 → r.flags ≡ 0 → r.count ≡ 1 → r.word1 ≡ 0 → VarTaken s q (eqb r.word2 0)
+var_taken s r q read e k f c a = rw (← read) (var_good s r e k f c a (eqb r.word2 0) refl)

@@ -5,17 +5,17 @@ use Prim.Native.Nat.{ℕ, zero, suc, ◌+◌, ◌-◌, ◌≤◌, ◌<◌}
 use native.Mathlib.Nat.{add-zero}
 use native.Mathlib.Numerals.{add-one}
 use native.Mathlib.Omega.{arith}
-use lib.ListN.{length, length-take, get_or, set, take}
+use lib.ListN.{length, length-append, length-set, get_or, set}
 use lib.Seq.{get_or-set_same, get_or-set_other}
-use Rattle.std.specs.Prelude.{Option, Some, None, slice_get, unwrap_or}
+use Rattle.std.specs.Prelude.{Option, Some, None}
+use Rattle.forms.specs.declared.stack.Stack.{Stack}
 use Rattle.forms.specs.declared.Sort.{Sort}
 use Rattle.forms.specs.declared.Sort.TheVariants.{Pattern, Expression, LetDef, Ident, Definition, TypeValue, Variant, Fields, StructField, TupleField, AttrKind, Priority, IfLet}
 use Rattle.forms.specs.Sorts.{number, sort_of}
-use Rattle.forms.specs.Kinds.{Columns, name}
+use Rattle.forms.specs.Kinds.{Columns}
 use Rattle.forms.specs.Forms.{placed, one, run, some, singles, leading, sorts_of, next, rest}
-use Rattle.forms.specs.Stack.{pending, Pushed}
-use Rattle.forms.proofs.Exact.{length-sorts_of}
-use Rattle.forms.proofs.JudgeLaws.{some_one}
+use Rattle.forms.specs.Stack.{pending, held, Room, Pushed}
+use Rattle.forms.proofs.Exact.{length-one, length-sorts_of}
 
 pub length-pending : (s : List ℕ) (n : ℕ) → length (pending s n) ≡ n
 unfolding pending
@@ -35,33 +35,28 @@ pending_push s n v h =
     rw (add-one n) (ap₂ ◌∷◌ (get_or-set_same s n v 0 h) (pending-set s n n v (omega arith)))
 
 -- the top, and what is below it
-last_taken : (s : List ℕ) (n : ℕ) → n < length s → slice_get (take (suc n) s) n ≡ Some (get_or s n 0)
-last_taken [] n h = absurd (omega arith)
-last_taken (x ∷ s) zero h = refl
-last_taken (x ∷ s) (suc n) h = last_taken s n (omega arith)
-
--- what stands below the top last, or b where nothing does
-pub next_is : (s : List ℕ) (b n r : ℕ) (o p : Option ℕ) → p ≡ slice_get (take n s) (length (take n s) - 1) → o ≡ p → n ≤ length s → r ≡ unwrap_or o b → r ≡ next b (pending s n)
+pub pending_top : (s : List ℕ) (n : ℕ) → (n ≡ 0 → ⊥) → pending s n ≡ get_or s (n - 1) 0 ∷ pending s (n - 1)
 unfolding pending
-next_is s b zero r o p e f h g = rw (g, f, e)
-next_is s b (suc n) r o p e f h g =
-    let k : length (take (suc n) s) - 1 ≡ n = omega (arith, length-take (suc n) s) in
-    rw (g, f, e, k, last_taken s n (omega arith))
+pending_top s zero h = absurd (h refl)
+pending_top s (suc n) h = let e : suc n - 1 ≡ n = omega arith in rw e
 
-pub pending-rest : (s : List ℕ) (n : ℕ) → rest (pending s n) ≡ pending s (n - 1)
+-- ---- the top is taken off
+
+pub popped-none : (s : List ℕ) (n : ℕ) → n ≡ 0 → (base : ℕ) → base ≡ next base (pending s n)
 unfolding pending
-pending-rest s zero = refl
-pending-rest s (suc n) = let e : suc n - 1 ≡ n = omega arith in rw e
+popped-none s n e base = rw e
+
+pub popped-top : (s : List ℕ) (n : ℕ) → (n ≡ 0 → ⊥) → (base : ℕ) → get_or s (n - 1) 0 ≡ next base (pending s n)
+popped-top s n h base = rw (pending_top s n h)
+
+pub left-top : (s : List ℕ) (n : ℕ) → (n ≡ 0 → ⊥) → pending s (n - 1) ≡ rest (pending s n)
+left-top s n h = rw (pending_top s n h)
+
+pub left-none : (s : List ℕ) (n : ℕ) → n ≡ 0 → pending s n ≡ rest (pending s n)
+unfolding pending
+left-none s n e = rw e
 
 -- ---- pushes
-
--- there is room for one more
-pub one_room : (top n : ℕ) (o : Option Sort) (x : Sort) → o ≡ Some x → top + some (sort_of o) ≤ n → top < n
-one_room top n o x e h = let f : 1 ≡ some (sort_of o) = some_one o x e in omega arith
-
-pub pushed_none : (s : List ℕ) (top : ℕ) (o : Option Sort) → o ≡ None → Pushed s s top top (one (sort_of o))
-unfolding one
-pushed_none s top o e = rw e (record { holds = refl })
 
 one_of : (x : Sort) → one (number x) ≡ number x ∷ []
 unfolding one
@@ -79,53 +74,77 @@ one_of AttrKind = refl
 one_of Priority = refl
 one_of IfLet = refl
 
-pub pushed_one : (s : List ℕ) (top v : ℕ) (o : Option Sort) (x : Sort) → o ≡ Some x → v ≡ number x → top < length s → Pushed s (set s top v) top (top + 1) (one (sort_of o))
-pushed_one s top v o x e f h = rw (e, one_of x, ← f) (record { holds = pending_push s top v h })
+-- one number
+pub pushed : (a b : Stack) (v : ℕ) → (b.top ≡ a.top + 1) × (b.sorts.now ≡ set a.sorts.now a.top v) → Room a (v ∷ []) → Pushed a b (v ∷ [])
+pushed a b v e h = record {
+  holds = rw (e.0, e.1) (pending_push a.sorts.now a.top v (omega arith));
+  higher = e.0;
+  same_space = rw e.1 (length-set a.sorts.now a.top v);
+}
 
-pub pushed_name : (s : List ℕ) (top : ℕ) → top < length s → Pushed s (set s top 4) top (top + 1) (name ∷ [])
-pushed_name s top h = record { holds = pending_push s top 4 h }
+-- there is room for one more
+pub room_one : (a : Stack) (o : Option Sort) (x : Sort) → o ≡ Some x → Room a (one (sort_of o)) → Room a (number x ∷ [])
+room_one a o x e h = rw (e, one_of x) at h
+
+pub pushed_none : (a : Stack) (o : Option Sort) → o ≡ None → Pushed a a (one (sort_of o))
+unfolding one
+pushed_none a o e = rw e (record { holds = refl; higher = sym (add-zero a.top); same_space = refl })
+
+pub pushed_one : (a b : Stack) (o : Option Sort) (x : Sort) (v : ℕ) → o ≡ Some x → v ≡ number x → Pushed a b (v ∷ []) → Pushed a b (one (sort_of o))
+pushed_one a b o x v e f p = rw (e, one_of x, ← f) p
 
 -- one push after another
-pub pushed_both : (s s₁ s₂ : List ℕ) (a b c : ℕ) (l m : List ℕ) → Pushed s s₁ a b l → Pushed s₁ s₂ b c m → Pushed s s₂ a c (m ++ l)
-pushed_both s s₁ s₂ a b c l m p q =
-    record { holds = q.holds ∙ ap (m ++◌) p.holds ∙ sym (append_assoc m l (pending s a)) }
+pub pushed_both : (a b c : Stack) (l m : List ℕ) → Pushed a b l → Pushed b c m → Pushed a c (m ++ l)
+pushed_both a b c l m p q = record {
+  holds = q.holds ∙ ap (m ++◌) p.holds ∙ sym (append_assoc m l (held a));
+  higher = simp length-append (omega (arith, p.higher, q.higher));
+  same_space = q.same_space ∙ p.same_space;
+}
 
-pub pushed_leading : (s s₁ s₂ s₃ : List ℕ) (a b c d : ℕ) (w : Columns) → Pushed s s₁ a b (one w.third) → Pushed s₁ s₂ b c (one w.second) → Pushed s₂ s₃ c d (one w.first) → Pushed s s₃ a d (leading w)
+pub pushed_leading : (a b c d : Stack) (w : Columns) → Pushed a b (one w.third) → Pushed b c (one w.second) → Pushed c d (one w.first) → Pushed a d (leading w)
 unfolding leading
-pushed_leading s s₁ s₂ s₃ a b c d w p q r =
-    pushed_both s s₂ s₃ a c d _ _ (pushed_both s s₁ s₂ a b c _ _ p q) r
+pushed_leading a b c d w p q r =
+    pushed_both a c d _ _ (pushed_both a b c _ _ p q) r
 
-pub pushed_children : (s s₁ s₂ s₃ : List ℕ) (a b c d n k : ℕ) (w : Columns) → k ≡ singles w → Pushed s s₁ a b (one w.last) → Pushed s₁ s₂ b c (run w.any 0 (n - k)) → Pushed s₂ s₃ c d (leading w) → Pushed s s₃ a d (sorts_of w n)
+pub pushed_children : (a b c d : Stack) (n k : ℕ) (w : Columns) → k ≡ singles w → Pushed a b (one w.last) → Pushed b c (run w.any 0 (n - k)) → Pushed c d (leading w) → Pushed a d (sorts_of w n)
 unfolding sorts_of
-pushed_children s s₁ s₂ s₃ a b c d n k w e p q r =
-    rw (← e) (pushed_both s s₂ s₃ a c d _ _ (pushed_both s s₁ s₂ a b c _ _ p q) r)
+pushed_children a b c d n k w e p q r =
+    rw (← e) (pushed_both a c d _ _ (pushed_both a b c _ _ p q) r)
 
 -- a run, from its last place down
-pub run_start : (s : List ℕ) (top x n : ℕ) → Pushed s s top (top + 0) (run x n 0)
+pub run_start : (a : Stack) (x n : ℕ) → Pushed a a (run x n (n - n))
 unfolding run
-run_start s top x n = record { holds = rw add-zero }
+run_start a x n = let e : n - n ≡ 0 = omega arith in rw e (record { holds = refl; higher = sym (add-zero a.top); same_space = refl })
 
-run-cons : (x p q n : ℕ) → q ≡ suc p → run x p (n + 1) ≡ placed x p ∷ run x q n
+pub run_more : (a b c : Stack) (x n p v : ℕ) → Pushed a b (run x p (n - p)) → 0 < p → p ≤ n → v ≡ placed x (p - 1) → Pushed b c (v ∷ []) → Pushed a c (run x (p - 1) (n - (p - 1)))
 unfolding run
-run-cons x p q n e = rw (add-one n, e)
+run_more a b c x n p v h k l e q =
+    let f : n - (p - 1) ≡ suc (n - p) = omega arith in
+    let g : suc (p - 1) ≡ p = omega arith in
+    rw (f, g, ← e) (pushed_both a b c _ _ h q)
 
-pub run_more : (s s₁ : List ℕ) (top x n j v : ℕ) → Pushed s s₁ top (top + j) (run x (n - j) j) → v ≡ placed x (n - (j + 1)) → j < n → top + n ≤ length s → length s₁ ≡ length s → Pushed s (set s₁ (top + j) v) top (top + (j + 1)) (run x (n - (j + 1)) (j + 1))
-run_more s s₁ top x n j v p e h k l =
-    let q : top + (j + 1) ≡ top + j + 1 = omega arith in
-    rw (q, run-cons x (n - (j + 1)) (n - j) j (omega arith), ← e)
-    (record { holds = pending_push s₁ (top + j) v (omega arith) ∙ ap (v ∷◌) p.holds })
-
-pub run_end : (s s₁ : List ℕ) (top x n j : ℕ) → Pushed s s₁ top (top + j) (run x (n - j) j) → j ≤ n → n ≤ j → Pushed s s₁ top (top + n) (run x 0 n)
-run_end s s₁ top x n j p h k =
-    let e : n - j ≡ 0 = omega arith in
-    let f : j ≡ n = omega arith in
-    rw (e, f) at p
+pub run_end : (a b : Stack) (x n p : ℕ) → Pushed a b (run x p (n - p)) → p ≤ 0 → Pushed a b (run x 0 n)
+run_end a b x n p h k =
+    let e : p ≡ 0 = omega arith in
+    let f : n - p ≡ n = omega arith in
+    rw (f, e) at h
 
 length-zero : (l : List ℕ) → length l ≡ 0 → [] ≡ l
 length-zero [] e = refl
 length-zero (x ∷ l) e = absurd (omega arith)
 
 -- a record without children puts nothing on the stack
-pub pushed_childless : (s : List ℕ) (top n : ℕ) (w : Columns) → singles w ≤ n → n ≡ 0 → Pushed s s top top (sorts_of w n)
-pushed_childless s top n w h e =
-    record { holds = ap (◌++ pending s top) (length-zero (sorts_of w n) (length-sorts_of w n h ∙ e)) }
+pub pushed_childless : (a : Stack) (n : ℕ) (w : Columns) → singles w ≤ n → n ≡ 0 → Pushed a a (sorts_of w n)
+pushed_childless a n w h e =
+    let z : [] ≡ sorts_of w n = length-zero (sorts_of w n) (length-sorts_of w n h ∙ e) in
+    rw (← z) (record { holds = refl; higher = sym (add-zero a.top); same_space = refl })
+
+-- the room for each
+module _ (w : Columns) where
+  pub length-leading : length (leading w) ≡ some w.first + some w.second + some w.third
+  unfolding leading
+  length-leading = simp (length-append, length-one) (omega arith)
+
+  pub singles_count : some w.first + some w.second + some w.third + some w.last ≡ singles w
+  unfolding singles
+  singles_count = refl

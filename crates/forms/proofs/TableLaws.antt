@@ -9,23 +9,24 @@ use lib.Dec.{eqb, ltb}
 use borrow.Author.Tests.{ltb-true, ne_eqb, lt-ltb, le-ltb}
 use Rattle.trees.specs.Choice.{pick}
 use Rattle.forms.specs.Tests.{◌and◌}
+use Rattle.std.specs.Prelude.{Option}
 use Rattle.forms.specs.declared.Row.{Row}
 use Rattle.forms.specs.declared.table.TheConstants.{ROWS}
 use Rattle.forms.specs.Kinds.{Columns, Entry, nobody, rows, find, row_for}
-use Rattle.forms.specs.Table.{kinds_end, row_at, rows_from, table, columns_of}
+use Rattle.forms.specs.Table.{kinds_end, row_at, rows_from, table, columns_if}
 use Rattle.forms.proofs.TestLaws.{both, false_and, and_false}
 
 -- ---- the code's rows are those of the kinds, one by one
 
-abbrev all_columns : List Row → List Columns
+abbrev all_columns : List (Option Row) → List Columns
 all_columns [] = []
-all_columns (w ∷ ws) = columns_of w ∷ all_columns ws
+all_columns (w ∷ ws) = columns_if w ∷ all_columns ws
 
 rows_are : all_columns ROWS ≡ table
 unfolding table rows_from row_at find rows ◌and◌
 rows_are = refl
 
-cell : (ws : List Row) (n m i q : ℕ) (d : Row) → all_columns ws ≡ rows_from m n → i < n → q ≡ m + i → columns_of (get_or ws i d) ≡ row_at q
+cell : (ws : List (Option Row)) (n m i q : ℕ) (d : Option Row) → all_columns ws ≡ rows_from m n → i < n → q ≡ m + i → columns_if (get_or ws i d) ≡ row_at q
 unfolding rows_from
 cell [] zero m i q d e h k = absurd (omega arith)
 cell [] (suc n) m i q d e h k = absurd (cc)
@@ -33,19 +34,19 @@ cell (w ∷ ws) zero m i q d e h k = absurd (omega arith)
 cell (w ∷ ws) (suc n) m zero q d e h k = let y : m ≡ q = omega arith in rw (← y) (cc)
 cell (w ∷ ws) (suc n) m (suc i) q d e h k = cell ws n (suc m) i q d (cc) (omega arith) (omega arith)
 
-pub table-row : (i k f : ℕ) (d : Row) → i < 4 + kinds_end → row_at i ≡ row_for k f → columns_of (get_or ROWS i d) ≡ row_for k f
+pub table-row : (i k f : ℕ) (d : Option Row) → i < 4 + kinds_end → row_at i ≡ row_for k f → columns_if (get_or ROWS i d) ≡ row_for k f
 unfolding table
 table-row i k f d h r = cell ROWS (4 + kinds_end) 0 i i d rows_are h (omega arith) ∙ r
 
 -- ---- which row a record has
 
-pub row-rule : (k f : ℕ) → k ≡ 20 → f < 4 → row_at f ≡ row_for k f
+pub row_rule : (k f : ℕ) → k ≡ 20 → f < 4 → row_at f ≡ row_for k f
 unfolding row_at row_for
-row-rule k f n h = rw (n, lt-ltb f 4 h)
+row_rule k f n h = rw (n, lt-ltb f 4 h)
 
-pub row-kind : (k f : ℕ) → (k ≡ 20 → ⊥) → row_at (4 + k) ≡ row_for k f
+pub row_kind : (k f : ℕ) → (k ≡ 20 → ⊥) → row_at (4 + k) ≡ row_for k f
 unfolding row_at row_for
-row-kind k f h =
+row_kind k f h =
     let e : 4 + k - 4 ≡ k = omega arith in
     rw (le-ltb (4 + k) 4 (omega arith), e, ne_eqb k 20 h)
 

@@ -2,8 +2,8 @@
 ghost use Rattle.std.specs.Prelude.{◌≡◌, true, false, ◌∷◌, ◌+◌, ◌-◌, ◌≤◌, ◌<◌, length, eqb, unwrap_or, IfSome};
 ghost use Rattle.records.specs.Slots.{slots, recs};
 ghost use Rattle.forms.specs.Tests.{◌and◌};
-ghost use Rattle.forms.specs.Stack.{pending};
 ghost use Rattle.forms.specs.Depth.{level_of, settle, read_one, expect, enter, Small, first_deep_in};
+ghost use Rattle.forms.specs.Stack.{pending};
 
 use crate::table::row_of;
 use records::{rec_at, slots};
@@ -16,71 +16,83 @@ const LEVELS: usize = 64;
 fn is_level(r: Rec) -> bool
     ensures { result ≡ level_of r.kind r.flags }
 {
-    match row_of(r.kind, r.flags).sort {
-        Some(sort) => sort.is_level(),
-        None => false,
-    }
+    row_of(r.kind, r.flags).is_some_and(|w| w.sort.is_level())
 }
 
-// How many levels are open once those that expect nothing more are left.
-fn settled(counts: &[u64], depth: usize) -> usize
-    requires { depth ≤ length counts.now }
-    ensures left { pending counts.now result ≡ settle (pending counts.now depth) }
-    ensures no_deeper { result ≤ depth }
-{
-    for d in (0..depth).rev() {
-        if counts[d] != 0 {
-            return d + 1;
+// How many trees each open level still expects, the outermost first, and how many levels are open.
+#[derive(Drop)]
+struct Levels {
+    counts: [u64; LEVELS],
+    depth: usize,
+    ghost open: { depth ≤ 64 },
+}
+
+impl Levels {
+    // How many levels are open once those that expect nothing more are left.
+    fn settled(&self) -> usize
+        ensures left { pending self.now.counts result ≡ settle (pending self.now.counts self.now.depth) }
+        ensures no_deeper { result ≤ self.now.depth }
+    {
+        for d in (0..self.depth).rev() {
+            if self.counts[d] != 0 {
+                return d + 1;
+            }
+        }
+        0
+    }
+
+    // Levels that expect nothing more are left.
+    fn settle(&mut self)
+        ensures { pending self.new.counts self.new.depth ≡ settle (pending self.old.counts self.old.depth) }
+    {
+        self.depth = self.settled();
+    }
+
+    // Whether a pattern or expression inside these levels is at depth 65.
+    #[tactic(auto, using(crate::proofs::DepthTurns::deep_level, crate::proofs::DepthTurns::deep_plain))]
+    fn is_too_deep(&self, level: bool) -> bool
+        ensures { result ≡ (level and eqb self.now.depth 64) }
+    {
+        level && self.depth == LEVELS
+    }
+
+    // The innermost level has read one tree, and expects c more.
+    fn stay(&mut self, c: u64)
+        requires small { Small 4294967296 (pending self.old.counts self.old.depth) }
+        requires few { c < 65536 }
+        ensures read { pending self.new.counts self.new.depth ≡ expect c (read_one (pending self.old.counts self.old.depth)) }
+        ensures same_depth { self.new.depth ≡ self.old.depth }
+    {
+        if self.depth != 0 {
+            let d = self.depth - 1;
+            self.counts[d] = self.counts[d].saturating_sub(1) + c;
         }
     }
-    0
-}
 
-// The innermost of d levels has read one tree, and expects c more.
-fn stay(counts: &mut [u64], d: usize, c: u64)
-    requires in_bounds { d ≤ length counts.old }
-    requires small { Small 4294967296 (pending counts.old d) }
-    requires few { c < 65536 }
-    ensures { pending counts.new d ≡ expect c (read_one (pending counts.old d)) }
-{
-    if d != 0 {
-        counts[d - 1] = counts[d - 1].saturating_sub(1) + c;
+    // A new level is entered with c trees expected, after the innermost one has read one tree.
+    fn enter(&mut self, c: u64)
+        requires room { self.old.depth < 64 }
+        requires small { Small 4294967296 (pending self.old.counts self.old.depth) }
+        ensures { pending self.new.counts self.new.depth ≡ c ∷ read_one (pending self.old.counts self.old.depth) }
+    {
+        self.stay(0);
+        self.counts[self.depth] = c;
+        self.depth += 1;
     }
-}
 
-// A new level is entered with c trees expected, after the innermost of d levels has read one tree.
-fn enter_level(counts: &mut [u64], d: usize, c: u64)
-    requires room { d < length counts.old }
-    requires small { Small 4294967296 (pending counts.old d) }
-    ensures { pending counts.new (d + 1) ≡ c ∷ read_one (pending counts.old d) }
-{
-    stay(counts, d, 0);
-    counts[d] = c;
-}
-
-// Whether a pattern or expression inside d levels is at depth 65.
-fn too_deep(level: bool, d: usize) -> bool
-    ensures { result ≡ (level and eqb d 64) }
-{
-    level && d == LEVELS
-}
-
-// A record with c children is read inside d levels. The number of levels open after it.
-fn step(counts: &mut [u64], d: usize, level: bool, c: u64) -> usize
-    requires room { 64 ≤ length counts.old }
-    requires open { d ≤ 64 }
-    requires not_too_deep { (level and eqb d 64) ≡ false }
-    requires small { Small 4294967296 (pending counts.old d) }
-    requires few { c < 65536 }
-    ensures read { pending counts.new result ≡ enter level c (read_one (pending counts.old d)) }
-    ensures still_open { result ≤ 64 }
-{
-    if level {
-        enter_level(counts, d, c);
-        return d + 1;
+    // A record with c children is read inside these levels.
+    fn read(&mut self, level: bool, c: u64)
+        requires not_too_deep { (level and eqb self.old.depth 64) ≡ false }
+        requires small { Small 4294967296 (pending self.old.counts self.old.depth) }
+        requires few { c < 65536 }
+        ensures { pending self.new.counts self.new.depth ≡ enter level c (read_one (pending self.old.counts self.old.depth)) }
+    {
+        if level {
+            self.enter(c);
+        } else {
+            self.stay(c);
+        }
     }
-    stay(counts, d, c);
-    d
 }
 
 // The index of the first pattern or expression at depth 65.
@@ -89,16 +101,18 @@ pub fn first_deep(list: &[u8]) -> Option<usize>
     ensures inside { IfSome result (λ i. i < slots list.now) }
     ensures first { unwrap_or result (slots list.now) ≡ first_deep_in (recs list.now) }
 {
-    let mut counts = [0u64; LEVELS];
-    let mut depth = 0;
+    let mut levels = Levels {
+        counts: [0; LEVELS],
+        depth: 0,
+    };
     for i in 0..slots(list) {
         let r = rec_at(list, i);
         let level = is_level(r);
-        let d = settled(&counts, depth);
-        if too_deep(level, d) {
+        levels.settle();
+        if levels.is_too_deep(level) {
             return Some(i);
         }
-        depth = step(&mut counts, d, level, r.count as u64);
+        levels.read(level, r.count as u64);
     }
     None
 }

@@ -4,11 +4,13 @@
 pub mod depth;
 pub mod judge;
 pub mod scans;
+mod stack;
 pub mod table;
 
 ghost use Rattle.std.specs.Prelude.{◌≡◌, ◌<◌, eqb};
 ghost use Rattle.forms.specs.Sorts.{number};
-ghost use Rattle.forms.specs.Forms.{placed};
+ghost use Rattle.forms.specs.Table.{columns_of};
+ghost use Rattle.forms.specs.Forms.{placed, singles};
 ghost use Rattle.forms.specs.Depth.{is_level};
 
 // What may stand in a place, by the names of ast.rs. The numbers are those of the rows of specs/Kinds.antt.
@@ -38,6 +40,7 @@ impl Sort {
 
     // What stands on the stack where this sort is expected at the place p among its parent's children: its number, and a TupleField's
     // place, so that only the record with that index may stand there.
+    #[tactic(auto, using(crate::proofs::JudgeLaws::placed_field, crate::proofs::JudgeLaws::placed_other))]
     fn placed(self, p: usize) -> u32
         requires { p < 65536 }
         ensures { result ≡ placed (number self) p }
@@ -52,14 +55,11 @@ impl Sort {
     fn is_level(self) -> bool
         ensures { result ≡ is_level (number self) }
     {
-        match self {
-            Sort::Pattern => true,
-            Sort::Expression => true,
-            _ => false,
-        }
+        matches!(self, Sort::Pattern | Sort::Expression)
     }
 
     // Whether s, from the stack, is this sort at the place p.
+    #[tactic(auto, using(crate::proofs::JudgeLaws::is_field, crate::proofs::JudgeLaws::is_far, crate::proofs::JudgeLaws::is_other))]
     fn is_placed(self, s: u32, p: u64) -> bool
         ensures { result ≡ eqb s (placed (number self) p) }
     {
@@ -83,7 +83,7 @@ pub enum Words {
 // their words hold; then their children: three single ones, any number of a sort, a last one.
 #[derive(Clone, Copy)]
 pub struct Row {
-    pub sort: Option<Sort>,
+    pub sort: Sort,
     pub flags: u8,
     pub position: bool,
     pub words: Words,
@@ -92,4 +92,16 @@ pub struct Row {
     pub third: Option<Sort>,
     pub any: Option<Sort>,
     pub last: Option<Sort>,
+}
+
+impl Row {
+    // How many single children it has.
+    fn singles(self) -> usize
+        ensures { result ≡ singles (columns_of self) }
+    {
+        self.first.is_some() as usize
+            + self.second.is_some() as usize
+            + self.third.is_some() as usize
+            + self.last.is_some() as usize
+    }
 }

@@ -7,6 +7,7 @@ use records::{rec_at, slots};
 use trees::{Kind, Rec};
 
 // The index after the n trees that start at the index `at`.
+#[tactic(auto, using(crate::proofs::SkipLaws::skip_done, crate::proofs::SkipLaws::skip_again, crate::proofs::SkipLaws::skip_ended))]
 pub fn skip(list: &[u8], at: usize, n: usize) -> usize
     requires few { slots list.now ≤ 65536 }
     requires few_trees { n ≤ 65536 }

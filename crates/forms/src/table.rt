@@ -1,7 +1,7 @@
 // The table of kinds, a row for each kind: the columns of `Row`, first to last, in the words of specs/Kinds.antt.
 ghost use Rattle.std.specs.Prelude.{◌≡◌, ◌+◌, ◌<◌};
 ghost use Rattle.forms.specs.Kinds.{row_for};
-ghost use Rattle.forms.specs.Table.{kinds_end, row_at, columns_of};
+ghost use Rattle.forms.specs.Table.{kinds_end, row_at, columns_if};
 
 use crate::{Row, Sort, Words};
 use trees::Kind;
@@ -12,21 +12,8 @@ const KINDS_END: u8 = 47;
 // A Rule's children follow its flags: it has a row for each number that they may be, and these come first.
 const RULES: usize = 4;
 
-// What no kind has: no flags are allowed, not even 0.
-const NO_ROW: Row = Row {
-    sort: None,
-    flags: 0,
-    position: false,
-    words: Words::Empty,
-    first: None,
-    second: None,
-    third: None,
-    any: None,
-    last: None,
-};
-
-// A sort by its name, or none.
-macro_rules! sort {
+// The sort of a child by its name, or none.
+macro_rules! child {
     (none) => {
         None
     };
@@ -48,26 +35,26 @@ macro_rules! position {
 // A row: sort, flags, position, words: the three single children, any number of a sort, the last one.
 macro_rules! row {
     ($sort:ident $flags:literal $position:ident $words:ident: $first:ident $second:ident $third:ident, $any:ident, $last:ident) => {
-        Row {
-            sort: sort!($sort),
+        Some(Row {
+            sort: Sort::$sort,
             flags: $flags,
             position: position!($position),
             words: Words::$words,
-            first: sort!($first),
-            second: sort!($second),
-            third: sort!($third),
-            any: sort!($any),
-            last: sort!($last),
-        }
+            first: child!($first),
+            second: child!($second),
+            third: child!($third),
+            any: child!($any),
+            last: child!($last),
+        })
     };
 }
 
-static ROWS: [Row; 51] = [
+static ROWS: [Option<Row>; 51] = [
     row!(Definition 4 pos Empty: Pattern none none, IfLet, Expression), // Rule with the flags 0
     row!(Definition 4 pos Empty: Ident Pattern none, IfLet, Expression), // Rule with the flags 1
     row!(Definition 4 pos Empty: Priority Pattern none, IfLet, Expression), // Rule with the flags 2
     row!(Definition 4 pos Empty: Ident Priority Pattern, IfLet, Expression), // Rule with the flags 3
-    NO_ROW, // 0
+    None, // 0
     row!(Definition 4 pos Empty: Ident TypeValue none, none, none), // 1 TypeDef
     row!(TypeValue 1 pos Empty: Ident none none, none, none), // 2 TypeValuePrimitive
     row!(TypeValue 1 pos Empty: none none none, Variant, none), // 3 TypeValueEnum
@@ -92,11 +79,11 @@ static ROWS: [Row; 51] = [
     row!(IfLet 1 pos Empty: Pattern Expression none, none, none), // 22 IfLet
     row!(Definition 1 pos Empty: Ident Ident Ident, none, none), // 23 Converter
     row!(Ident 1 pos Range: none none none, none, none), // 24 Ident
-    NO_ROW, // 25
-    NO_ROW, // 26
-    NO_ROW, // 27
-    NO_ROW, // 28
-    NO_ROW, // 29
+    None, // 25
+    None, // 26
+    None, // 27
+    None, // 28
+    None, // 29
     row!(Pattern 1 pos Empty: Ident none none, none, none), // 30 PatternVar
     row!(Pattern 1 pos Empty: Ident Pattern none, none, none), // 31 PatternBind
     row!(Pattern 2 pos Empty: none none none, none, none), // 32 PatternConstBool
@@ -106,7 +93,7 @@ static ROWS: [Row; 51] = [
     row!(Pattern 1 pos Empty: none none none, none, none), // 36 PatternWildcard
     row!(Pattern 1 pos Empty: none none none, Pattern, none), // 37 PatternAnd
     row!(Pattern 1 pos Index: none none none, none, none), // 38 PatternMacroArg
-    NO_ROW, // 39
+    None, // 39
     row!(Expression 1 pos Empty: Ident none none, Expression, none), // 40 ExprTerm
     row!(Expression 1 pos Empty: Ident none none, none, none), // 41 ExprVar
     row!(Expression 2 pos Empty: none none none, none, none), // 42 ExprConstBool
@@ -117,6 +104,7 @@ static ROWS: [Row; 51] = [
 ];
 
 // The number of the row of a record's kind and flags.
+#[tactic(auto, using(crate::proofs::TableLaws::row_rule, crate::proofs::TableLaws::row_kind, crate::proofs::TableLaws::row_past, crate::proofs::TableLaws::row_bad_flags))]
 fn row_number(kind: u8, flags: u8) -> usize
     ensures in_table { result < 4 + kinds_end }
     ensures row { row_at result ≡ row_for kind flags }
@@ -133,9 +121,9 @@ fn row_number(kind: u8, flags: u8) -> usize
     RULES
 }
 
-// The row of a record's kind and flags.
-pub fn row_of(kind: u8, flags: u8) -> Row
-    ensures { columns_of result ≡ row_for kind flags }
+// The row of a record's kind and flags, or none where no kind has that number.
+pub fn row_of(kind: u8, flags: u8) -> Option<Row>
+    ensures { columns_if result ≡ row_for kind flags }
 {
     let i = row_number(kind, flags);
     ROWS[i]

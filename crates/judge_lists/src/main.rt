@@ -4,7 +4,7 @@
 // The text has 64 bytes.
 #![tactic(auto)]
 
-ghost use Rattle.std.specs.Prelude.{◌+◌, ◌*◌, ◌≤◌, ◌<◌, length};
+ghost use Rattle.std.specs.Prelude.{◌≤◌, ◌<◌, length, IfSome};
 ghost use Rattle.records.specs.Slots.{slots};
 
 use forms::depth::first_deep;
@@ -14,7 +14,7 @@ use records::{put, rec_at, slots};
 use std::alloc::Global;
 use std::fmt;
 use std::io::{self, Read};
-use trees::{Kind, Rec};
+use trees::{Head, Kind, Rec};
 
 // What a list should be.
 #[derive(Clone, Copy)]
@@ -48,7 +48,7 @@ fn judge(form: Form, list: &[u8]) -> bool
     }
 }
 
-// A field of a record, or none.
+// A field of a record.
 #[derive(Clone, Copy)]
 enum Field {
     Kind,
@@ -57,17 +57,15 @@ enum Field {
     Position,
     Word1,
     Word2,
-    Nothing,
 }
 
-const FIELDS: [Field; 7] = [
+const FIELDS: [Field; 6] = [
     Field::Kind,
     Field::Flags,
     Field::Count,
     Field::Position,
     Field::Word1,
     Field::Word2,
-    Field::Nothing,
 ];
 
 impl fmt::Display for Field {
@@ -79,7 +77,6 @@ impl fmt::Display for Field {
             Field::Position => "position",
             Field::Word1 => "word 1",
             Field::Word2 => "word 2",
-            Field::Nothing => "nothing",
         })
     }
 }
@@ -94,25 +91,24 @@ fn damaged(r: Rec, field: Field) -> Rec {
         Field::Position => d.pos = r.pos % 2147483648 + 1,
         Field::Word1 => d.word1 = r.word1 % 4294967296 + 1099511627776,
         Field::Word2 => d.word2 = r.word2 % 2147483648 + 1,
-        Field::Nothing => {}
     }
     d
 }
 
-// Whether the list is accepted with a field of record i damaged. The list is left as it was.
-fn try_record(list: &mut [u8], i: usize, field: Field, form: Form) -> bool
+// Whether the list is accepted with a field of record i damaged, or none. The list is left as it was.
+fn try_record(list: &mut [u8], i: usize, field: Option<Field>, form: Form) -> bool
     requires there { i < slots list.old }
     requires few { slots list.old ≤ 65536 }
 {
     let r = rec_at(list, i);
-    put(list, i, damaged(r, field));
+    put(list, i, field.map_or(r, |f| damaged(r, f)));
     let accepted = judge(form, list);
     put(list, i, r);
     accepted
 }
 
 // How many of the lists with that field damaged in one record are accepted.
-fn try_list(list: &mut [u8], field: Field, form: Form) -> u64
+fn try_list(list: &mut [u8], field: Option<Field>, form: Form) -> u64
     requires { slots list.old ≤ 65536 }
     ensures { result ≤ 65536 }
 {
@@ -123,22 +119,45 @@ fn try_list(list: &mut [u8], field: Field, form: Form) -> u64
     accepted
 }
 
+// A list of the input: what it should be, and where its records begin and end.
+#[derive(Clone, Copy)]
+struct Listed {
+    form: Form,
+    from: usize,
+    to: usize,
+}
+
+// The list of the input whose first byte is at `at`, if all of it is there.
+fn list_at(input: &[u8], at: usize) -> Option<Listed>
+    requires { at ≤ length input.now }
+    ensures later { IfSome result (λ l. at < l.from) }
+    ensures ordered { IfSome result (λ l. l.from ≤ l.to) }
+    ensures inside { IfSome result (λ l. l.to ≤ length input.now) }
+{
+    if input.len() - at < 2 {
+        return None;
+    }
+    let from = at + 2;
+    let to = from + 24 * usize::from(input[at + 1]);
+    if input.len() < to {
+        return None;
+    }
+    Some(Listed {
+        form: Form::from(input[at]),
+        from,
+        to,
+    })
+}
+
 // The same for every list of the input.
-fn try_lists(input: &mut [u8], field: Field) -> u64
+fn try_lists(input: &mut [u8], field: Option<Field>) -> u64
     requires { length input.old ≤ 65536 }
 {
-    let end = input.len();
     let mut accepted = 0;
     let mut at = 0;
-    while 2 <= end - at {
-        let form = Form::from(input[at]);
-        let from = at + 2;
-        let to = from + 24 * usize::from(input[at + 1]);
-        if end < to {
-            return accepted;
-        }
-        accepted += try_list(&mut input[from..to], field, form);
-        at = to;
+    while let Some(list) = list_at(input, at) {
+        accepted += try_list(&mut input[list.from..list.to], field, list.form);
+        at = list.to;
     }
     accepted
 }
@@ -147,17 +166,11 @@ fn try_lists(input: &mut [u8], field: Field) -> u64
 fn count_records(input: &[u8]) -> u64
     requires { length input.now ≤ 65536 }
 {
-    let end = input.len();
     let mut total = 0;
     let mut at = 0;
-    while 2 <= end - at {
-        let n = input[at + 1];
-        let to = at + 2 + 24 * usize::from(n);
-        if end < to {
-            return total;
-        }
-        total += u64::from(n);
-        at = to;
+    while let Some(list) = list_at(input, at) {
+        total += slots(&input[list.from..list.to]) as u64;
+        at = list.to;
     }
     total
 }
@@ -172,41 +185,27 @@ fn fill(list: &mut [u8], first: Rec, between: Rec, last: Rec) {
 }
 
 fn and_of(count: u16) -> Rec {
-    Rec {
-        kind: Kind::PatternAnd as u8,
-        flags: 0,
-        count,
-        pos: 1,
-        word1: 0,
-        word2: 0,
-    }
+    Head::plain(Kind::PatternAnd, 0, 1).over(count)
 }
 
 fn wildcard() -> Rec {
-    Rec {
-        kind: Kind::PatternWildcard as u8,
-        flags: 0,
-        count: 0,
-        pos: 1,
-        word1: 0,
-        word2: 0,
-    }
+    Head::plain(Kind::PatternWildcard, 0, 1).over(0)
 }
 
 fn line(rt: &impl Print, label: &str, n: u64) -> io::Result<()> {
     println!(rt; "{label}{n}")
 }
 
-// For each field, how many lists are accepted with that field of one record damaged.
+// For each field, how many lists are accepted with that field of one record damaged; and how many with none.
 fn report(rt: &impl Print, input: &mut [u8]) -> io::Result<()>
     requires { length input.old ≤ 65536 }
 {
     line(rt, "records: ", count_records(input))?;
     for field in FIELDS {
-        let accepted = try_lists(input, field);
+        let accepted = try_lists(input, Some(field));
         println!(rt; "{field} damaged, accepted: {accepted}")?;
     }
-    Ok(())
+    line(rt, "nothing damaged, accepted: ", try_lists(input, None))
 }
 
 // Where nothing is found, the number of records is printed.

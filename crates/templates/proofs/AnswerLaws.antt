@@ -1,40 +1,51 @@
 -- Answers: by how many records were appended, their numbers, and the output that an entry leaves. Assumes nothing.
-use Prim.Native.Nat.{ℕ, ◌-◌, ◌*◌, ◌/◌, ◌<◌, ◌≤◌, min}
+use Prim.Native.Nat.{ℕ, ◌-◌, ◌*◌, ◌<◌, ◌≤◌, min}
 use native.Mathlib.Omega.{arith}
+use mir.Val.{Fits}
+use mir.Syntax.{w32}
 use mathlib.Core.Path.{◌≡◌, refl, ap, ◌∙◌}
 use mathlib.Core.List.{List, ◌++◌}
 use lib.ListN.{length, take, replicate}
 use lib.Dec.{leb}
 use borrow.Author.Tests.{le-leb, lt-leb}
 use Rattle.trees.specs.Choice.{pick}
-use Rattle.std.specs.Prelude.{Some, None, Ok, Err}
+use Rattle.std.specs.Prelude.{Ok, Err}
 use Rattle.trees.specs.declared.Rec.{Rec}
-use Rattle.records.specs.Slots.{writes}
+use Rattle.records.specs.Slots.{slots, writes}
 use Rattle.records.proofs.BackLaws.{writes-cleared}
 use Rattle.records.specs.Result.{accepted}
 use Rattle.templates.specs.declared.Refused.{Refused}
-use Rattle.templates.specs.declared.Refused.TheVariants.{NoSpace}
-use Rattle.templates.specs.Answers.{Answer, refusal_of, number_of, Countable, fitted, Answered, cleared, output_of, Finished}
-use Rattle.templates.specs.Writing.{Wrote, all, full}
+use Rattle.templates.specs.declared.Refused.TheVariants.{MacroArg, NoPattern, NoSpace}
+use Rattle.templates.specs.declared.output.Output.{Output}
+use Rattle.templates.specs.Answers.{Answer, refusal_of, number_of, Countable, space, fitted, Answered, cleared, output_of, Finished}
+use Rattle.templates.specs.Writing.{Empty, Wrote, all, full}
 
 -- ---- the answer by how many records were appended
 
 pub answered_refusal : (wanted : Answer) (l : List Rec) (a b : List ℕ) (f : Refused) → Err f ≡ wanted → Answered wanted l a b (Err f)
 answered_refusal wanted l a b f e = record { answer = e; output = λ n q. absurd (cc) }
 
-pub answered_full : (room : ℕ) (a b : List ℕ) (l : List Rec) → Wrote room a 0 l b None → Answered (fitted l room) l a b (Err NoSpace)
-unfolding fitted
-answered_full room a b l (full f) = answered_refusal (pick (leb (length l) room) (Ok (length l)) (Err NoSpace)) l a b NoSpace (rw (lt-leb (length l) room (omega arith)))
+module _ (a : List ℕ) (o : Output) (made : Empty a o) (l : List Rec) (p : Output) where
+  pub answered_full : (b : List ℕ) (f : Refused) → Wrote o l p (Err f) → Answered (fitted l (space a)) l a b (Err f)
+  unfolding fitted
+  answered_full b NoSpace (full h) =
+      answered_refusal (pick (leb (length l) (space a)) (Ok (length l)) (Err NoSpace)) l a b NoSpace (rw (lt-leb (length l) (space a) (omega (arith, made.room, made.written))))
+  answered_full b (MacroArg k) w = elim w [ ]
+  answered_full b (NoPattern k) w = elim w [ ]
 
-pub answered_all : (room : ℕ) (a b : List ℕ) (l : List Rec) (n : ℕ) → Wrote room a 0 l b (Some n) → room ≡ min (length a / 24) 65536 → Answered (fitted l room) l a b (Ok n)
-unfolding fitted
-answered_all room a b l n (all e f g) s =
-    let m : n ≡ length l = omega arith in
-    let k : length l ≤ room = omega arith in
-    record {
-      answer = rw (le-leb (length l) room k, m);
-      output = λ j q. let i : n ≡ j = cc in record { counted = omega arith; few = omega arith; inside = omega arith; wrote = g };
-    }
+  pub answered_all : (b : List ℕ) (n : ℕ) → Wrote o l p (Ok tt) → n ≡ p.written → b ≡ p.bytes.now → Answered (fitted l (space a)) l a b (Ok n)
+  unfolding fitted space
+  answered_all b n (all w) e r =
+      let m : n ≡ length l = omega (arith, w.written, made.written) in
+      let k : length l ≤ min (slots a) 65536 = omega (arith, w.within, made.room) in
+      record {
+        answer = rw (le-leb (length l) (min (slots a) 65536) k, m);
+        output = λ j q. let i : n ≡ j = cc in record { counted = omega arith; few = omega arith; inside = omega arith; wrote = r ∙ w.bytes ∙ rw (made.bytes, made.written) };
+      }
+
+pub answered_fits : (a : List ℕ) (o p : Output) (l : List Rec) (n : ℕ) → n ≡ p.written → Empty a o → Wrote o l p (Ok tt) → Fits w32 n
+unfolding space
+answered_fits a o p l n e made (all w) = let k : o.room ≡ min (slots a) 65536 = made.room in omega (arith, w.within)
 
 -- ---- its number
 

@@ -1,5 +1,5 @@
 -- Substituting, one slot of the template after another: a law for each way through its code. Assumes nothing.
-use Prim.Native.Nat.{ℕ, suc, ◌+◌, ◌-◌, ◌/◌, ◌<◌, ◌≤◌, min}
+use Prim.Native.Nat.{ℕ, suc, ◌+◌, ◌-◌, ◌<◌, ◌≤◌}
 use native.Mathlib.Omega.{arith}
 use mathlib.Core.Path.{◌≡◌, refl, sym, ap, ◌∙◌}
 use mathlib.Core.Bool.{Bool, true, false}
@@ -19,12 +19,14 @@ use Rattle.expansion.specs.Flat.{span, after, tree_records, end_of, fill, FitsAt
 use Rattle.expansion.proofs.IndexLaws.{all-at}
 use Rattle.expansion.proofs.SpanLaws.{span-zero, span_le, span-add, trees_of-after, count-others, count-trees_of}
 use Rattle.expansion.proofs.ListLaws.{list-substitute}
-use Rattle.std.specs.Prelude.{Option, Some, None, Ok, Err}
+use Rattle.std.specs.Prelude.{Result, Ok, Err}
 use Rattle.forms.specs.Lists.{left, skip, first_of}
 use Rattle.grounds.proofs.At.{skip-end}
-use Rattle.templates.specs.declared.Refused.TheVariants.{NoPattern, NoSpace}
+use Rattle.templates.specs.declared.Refused.{Refused}
+use Rattle.templates.specs.declared.Refused.TheVariants.{NoPattern}
+use Rattle.templates.specs.declared.output.Output.{Output}
 use Rattle.templates.specs.Answers.{lacks_pattern, space, substituted_records, first_lacking, fitted, substitute_answer, Answered, ArgLeaf, SubstituteReady}
-use Rattle.templates.specs.Writing.{Wrote, Reaches, slice}
+use Rattle.templates.specs.Writing.{Empty, Wrote, Reaches, slice}
 use Rattle.templates.specs.Scans.{Starts, start_of, pattern_records, filled_by, fill_from, ArgsBelow}
 use Rattle.templates.proofs.WriteLaws.{reaches_more, reaches_stop, reaches_end}
 use Rattle.templates.proofs.AnswerLaws.{answered_refusal, answered_full, answered_all}
@@ -172,8 +174,8 @@ module _ (p s : List ℕ) (m : ℕ) (v : Starts p s m) where
         let n : upto - from ≡ span (after (recs p) k) 1 = omega (arith, size_is) in
         rw (n, start_is k from a (omega arith))
 
-    pub part_wrote : (room : ℕ) (c : List ℕ) (o : ℕ) (d : List ℕ) (y : Option ℕ) → Wrote room c o (slice p from upto) d y → Wrote room c o (pattern_records p k) d y
-    part_wrote room c o d y w = rw part-is at w
+    pub part_wrote : (c d : Output) (y : Result (Unit {0}) Refused) → Wrote c (slice p from upto) d y → Wrote c (pattern_records p k) d y
+    part_wrote c d y w = rw part-is at w
 
 -- ---- what a record becomes
 
@@ -181,31 +183,31 @@ pub arg_below : (t : List ℕ) (m i : ℕ) (r : Rec) → r ≡ rec_at t i → Ar
 unfolding is_macro_arg
 arg_below t m i r e v h k = rw e (v.below i h (eq-eqb (rec_at t i).kind 38 (rw e at k)))
 
-module _ (room : ℕ) (a : List ℕ) (o : ℕ) (b : List ℕ) (y : Option ℕ) (p t : List ℕ) (i : ℕ) (r : Rec) where
-  pub filled_arg : Wrote room a o (pattern_records p r.word1) b y → r ≡ rec_at t i → r.kind ≡ 38 → Wrote room a o (filled_by p (rec_at t i)) b y
+module _ (a b : Output) (y : Result (Unit {0}) Refused) (p t : List ℕ) (i : ℕ) (r : Rec) where
+  pub filled_arg : Wrote a (pattern_records p r.word1) b y → r ≡ rec_at t i → r.kind ≡ 38 → Wrote a (filled_by p (rec_at t i)) b y
   unfolding filled_by is_macro_arg
   filled_arg w e k = rw (← e, eq-eqb r.kind 38 k) w
 
-  pub filled_copy : Wrote room a o (r ∷ []) b y → r ≡ rec_at t i → (r.kind ≡ 38 → ⊥) → Wrote room a o (filled_by p (rec_at t i)) b y
+  pub filled_copy : Wrote a (r ∷ []) b y → r ≡ rec_at t i → (r.kind ≡ 38 → ⊥) → Wrote a (filled_by p (rec_at t i)) b y
   unfolding filled_by is_macro_arg
   filled_copy w e k = rw (← e, ne_eqb r.kind 38 k) w
 
 -- ---- the scan
 
-module _ (room : ℕ) (a₀ a : List ℕ) (o : ℕ) (whole : List Rec) (t p : List ℕ) (i : ℕ) where
+module _ (a₀ a : Output) (whole : List Rec) (t p : List ℕ) (i : ℕ) where
   fill-at : i < slots t → fill_from t i p ≡ filled_by p (rec_at t i) ++ fill_from t (i + 1) p
   unfolding fill_from filled_by pattern_records fill
   fill-at h = rw (recs-at t i h)
 
-  pub fill_turn : (b : List ℕ) (n : ℕ) → Wrote room a o (filled_by p (rec_at t i)) b (Some n) → Reaches room a₀ whole a o (fill_from t i p) → i < slots t → Reaches room a₀ whole b n (fill_from t (i + 1) p)
-  fill_turn b n w v h = reaches_more room a₀ a o whole (fill_from t i p) v b n (filled_by p (rec_at t i)) (fill_from t (i + 1) p) (fill-at h) w
+  pub fill_turn : (b : Output) → Wrote a (filled_by p (rec_at t i)) b (Ok tt) → Reaches a₀ whole a (fill_from t i p) → i < slots t → Reaches a₀ whole b (fill_from t (i + 1) p)
+  fill_turn b w v h = reaches_more a₀ a whole (fill_from t i p) v b (filled_by p (rec_at t i)) (fill_from t (i + 1) p) (fill-at h) w
 
-  pub fill_stop : (b : List ℕ) → Wrote room a o (filled_by p (rec_at t i)) b None → Reaches room a₀ whole a o (fill_from t i p) → i < slots t → Wrote room a₀ 0 whole b None
-  fill_stop b w v h = reaches_stop room a₀ a o whole (fill_from t i p) v b (filled_by p (rec_at t i)) (fill_from t (i + 1) p) (fill-at h) w
+  pub fill_stop : (b : Output) (f : Refused) → Wrote a (filled_by p (rec_at t i)) b (Err f) → Reaches a₀ whole a (fill_from t i p) → i < slots t → Wrote a₀ whole b (Err f)
+  fill_stop b f w v h = reaches_stop a₀ a whole (fill_from t i p) v b (filled_by p (rec_at t i)) (fill_from t (i + 1) p) f (fill-at h) w
 
-  pub fill_end : Reaches room a₀ whole a o (fill_from t i p) → slots t ≤ i → o ≤ room → Wrote room a₀ 0 whole a (Some o)
+  pub fill_end : Reaches a₀ whole a (fill_from t i p) → slots t ≤ i → a.written ≤ a.room → Wrote a₀ whole a (Ok tt)
   unfolding fill_from fill
-  fill_end v h k = reaches_end room a₀ a o whole (fill (tree_records (recs p)) (drop i (recs t))) v (rw (recs-end t i h)) k
+  fill_end v h k = reaches_end a₀ a whole (fill (tree_records (recs p)) (drop i (recs t))) v (rw (recs-end t i h)) k
 
 -- ---- no MacroArg lacks its pattern
 
@@ -242,21 +244,23 @@ module _ (t p : List ℕ) (ready : SubstituteReady t p) (s : List ℕ) (m : ℕ)
     pub args_below : ArgsBelow t m
     args_below = fits_below t m fits
 
-    module _ (room : ℕ) (a b : List ℕ) (n : room ≡ min (length a / 24) 65536) where
-      filled : substituted_records (recs t) (recs p) ≡ fill_from t 0 p
-      unfolding substituted_records fill_from
-      filled =
-          let f : All (FitsAt (count (trees_of (recs p)))) (recs t) = rw v.counted at fits in
-          list-substitute (recs t) (recs p) ready.placed ready.patterns_placed f
+    filled : substituted_records (recs t) (recs p) ≡ fill_from t 0 p
+    unfolding substituted_records fill_from
+    filled =
+        let f : All (FitsAt (count (trees_of (recs p)))) (recs t) = rw v.counted at fits in
+        list-substitute (recs t) (recs p) ready.placed ready.patterns_placed f
 
-      fitted_is : substitute_answer (recs t) (recs p) (space a) ≡ fitted (fill_from t 0 p) room
-      unfolding substitute_answer first_lacking space
+    module _ (a : List ℕ) (o q : Output) (made : Empty a o) where
+      fitted_is : substitute_answer (recs t) (recs p) (space a) ≡ fitted (fill_from t 0 p) (space a)
+      unfolding substitute_answer first_lacking
       fitted_is =
           let k : length (recs t) ≤ slots t = omega (arith, length-recs t) in
-          rw (← v.counted, ← none_lack, le-ltb (slots t) (length (recs t)) k, filled, ← n)
+          rw (← v.counted, ← none_lack, le-ltb (slots t) (length (recs t)) k, filled)
 
-      pub substitute_full : Wrote room a 0 (fill_from t 0 p) b None → Answered (substitute_answer (recs t) (recs p) (space a)) (substituted_records (recs t) (recs p)) a b (Err NoSpace)
-      substitute_full w = rw (fitted_is, filled) (answered_full room a b (fill_from t 0 p) w)
+      pub substitute_full : (b : List ℕ) (f : Refused) → Wrote o (fill_from t 0 p) q (Err f)
+          → Answered (substitute_answer (recs t) (recs p) (space a)) (substituted_records (recs t) (recs p)) a b (Err f)
+      substitute_full b f w = rw (fitted_is, filled) (answered_full a o made (fill_from t 0 p) q b f w)
 
-      pub substitute_all : (k : ℕ) → Wrote room a 0 (fill_from t 0 p) b (Some k) → Answered (substitute_answer (recs t) (recs p) (space a)) (substituted_records (recs t) (recs p)) a b (Ok k)
-      substitute_all k w = rw (fitted_is, filled) (answered_all room a b (fill_from t 0 p) k w n)
+      pub substitute_all : (b : List ℕ) (n : ℕ) → Wrote o (fill_from t 0 p) q (Ok tt) → n ≡ q.written → b ≡ q.bytes.now
+          → Answered (substitute_answer (recs t) (recs p) (space a)) (substituted_records (recs t) (recs p)) a b (Ok n)
+      substitute_all b n w e r = rw (fitted_is, filled) (answered_all a o made (fill_from t 0 p) q b n w e r)

@@ -1,11 +1,11 @@
 -- Making a template, one slot of the pattern after another: a law for each way through its code. Assumes nothing.
-use Prim.Native.Nat.{ℕ, zero, suc, ◌+◌, ◌/◌, ◌<◌, ◌≤◌, min}
+use Prim.Native.Nat.{ℕ, zero, suc, ◌+◌, ◌<◌, ◌≤◌}
 use native.Mathlib.Omega.{arith}
 use native.Mathlib.Nat.{zero-add}
 use mathlib.Core.Path.{◌≡◌, refl, sym, ap, ◌∙◌}
 use mathlib.Core.Bool.{Bool, true, false}
 use mathlib.Core.Option.{Option, none, some}
-use Rattle.std.specs.Prelude.{Option as Found, Some, None, Ok, Err}
+use Rattle.std.specs.Prelude.{Option as Found, Some, None, IfSome, IfNone, MatchOption, Ok, Err}
 use mathlib.Core.List.{List, [], ◌∷◌}
 use lib.ListN.{length, drop}
 use lib.Seq.{drop-drop}
@@ -25,9 +25,11 @@ use Rattle.expansion.proofs.IndexLaws.{all-at}
 use Rattle.expansion.proofs.FlatTemplates.{at_other}
 use Rattle.expansion.proofs.ListLaws.{list_make}
 use Rattle.forms.specs.Lists.{FirstToPass, first_of}
-use Rattle.templates.specs.declared.Refused.TheVariants.{MacroArg, NoSpace}
+use Rattle.templates.specs.declared.Refused.{Refused}
+use Rattle.templates.specs.declared.Refused.TheVariants.{MacroArg}
+use Rattle.templates.specs.declared.output.Output.{Output}
 use Rattle.templates.specs.Answers.{is_arg, space, template_records, template_answer, fitted, Answered, Leaf, Params, MakeReady}
-use Rattle.templates.specs.Writing.{Wrote, Reaches}
+use Rattle.templates.specs.Writing.{Empty, Wrote, Reaches}
 use Rattle.templates.specs.Scans.{option_of, params_of, named_next, named_at, wildcard_at, parameter_at, making_from, argument, after_parameter, MadeAt}
 use Rattle.templates.proofs.WriteLaws.{reaches_more, reaches_stop, reaches_end}
 use Rattle.templates.proofs.AnswerLaws.{answered_refusal, answered_full, answered_all}
@@ -91,24 +93,22 @@ module _ (text name params : List ℕ) (v : Params params) where
 
 -- ---- names and Wildcards at a slot
 
-module _ (text pattern params : List ℕ) (j n : ℕ) (all : n ≡ slots pattern) where
-  pub named_is : (f : Found ℕ) (s : List ℕ) (i : Rec) → option_of f ≡ position text s (params_of params) → s ≡ spelled text i.word1 → i ≡ rec_at pattern j → j < n
+module _ (text pattern params : List ℕ) (j : ℕ) where
+  pub named_is : (f : Found ℕ) (s : List ℕ) (i : Rec) → option_of f ≡ position text s (params_of params) → s ≡ spelled text i.word1 → (j < slots pattern) × (i ≡ rec_at pattern j)
       → option_of f ≡ named_at text pattern j params
   unfolding named_at named_next
-  named_is f s i x y z h = let k : j < slots pattern = omega arith in x ∙ rw (recs-at pattern j k, ← z, ← y)
+  named_is f s i x y z = let k : j < slots pattern = z.0 in x ∙ rw (recs-at pattern j k, ← z.1, ← y)
 
-  pub named_none : n ≤ j → option_of None ≡ named_at text pattern j params
+  pub named_none : slots pattern ≤ j → option_of None ≡ named_at text pattern j params
   unfolding named_at named_next option_of
-  named_none h = let k : slots pattern ≤ j = omega arith in rw (recs-end pattern j k)
+  named_none k = rw (recs-end pattern j k)
 
-module _ (pattern : List ℕ) (j n : ℕ) (all : n ≡ slots pattern) where
-  pub wildcard_is : (r : Rec) → r ≡ rec_at pattern j → j < n → eqb r.kind 36 ≡ wildcard_at pattern j
+module _ (pattern : List ℕ) (j : ℕ) where
+  pub wildcard_is : (o : Found Rec) (b : Bool) (P : Rec → Type 0) → IfSome o (λ r. (j < slots pattern) × (r ≡ rec_at pattern j)) → IfNone o (slots pattern ≤ j)
+      → MatchOption o (b ≡ false) P → ((r : Rec) → P r → b ≡ eqb r.kind 36) → b ≡ wildcard_at pattern j
   unfolding wildcard_at is_wildcard
-  wildcard_is r e h = let k : j < slots pattern = omega arith in rw (recs-at pattern j k, ← e)
-
-  pub wildcard_none : n ≤ j → false ≡ wildcard_at pattern j
-  unfolding wildcard_at
-  wildcard_none h = let k : slots pattern ≤ j = omega arith in rw (recs-end pattern j k)
+  wildcard_is None b P there past m f = m ∙ rw (recs-end pattern j past)
+  wildcard_is (Some r) b P there past m f = let k : j < slots pattern = there.0 in f r m ∙ rw (recs-at pattern j k, there.1)
 
 -- ---- the parameter that a record stands for
 
@@ -219,25 +219,25 @@ module _ (text pattern params : List ℕ) (i : ℕ) (r : Rec) (f : Found ℕ) (i
 
   -- ---- the scan
 
-  module _ (room : ℕ) (a₀ a : List ℕ) (o : ℕ) (whole : List Rec) (inv : Reaches room a₀ whole a o (making_from text pattern i params)) (b : List ℕ) where
-    pub copy_turn : f ≡ None → (n : ℕ) → Wrote room a o (r ∷ []) b (Some n) → Reaches room a₀ whole b n (making_from text pattern (i + 1) params)
-    copy_turn e n w = reaches_more room a₀ a o whole (making_from text pattern i params) inv b n (r ∷ []) (making_from text pattern (i + 1) params) (made_copy e).made w
+  module _ (a₀ a : Output) (whole : List Rec) (inv : Reaches a₀ whole a (making_from text pattern i params)) (b : Output) where
+    pub copy_turn : f ≡ None → Wrote a (r ∷ []) b (Ok tt) → Reaches a₀ whole b (making_from text pattern (i + 1) params)
+    copy_turn e w = reaches_more a₀ a whole (making_from text pattern i params) inv b (r ∷ []) (making_from text pattern (i + 1) params) (made_copy e).made w
 
-    pub copy_stop : f ≡ None → Wrote room a o (r ∷ []) b None → Wrote room a₀ 0 whole b None
-    copy_stop e w = reaches_stop room a₀ a o whole (making_from text pattern i params) inv b (r ∷ []) (making_from text pattern (i + 1) params) (made_copy e).made w
+    pub copy_stop : (g : Refused) → f ≡ None → Wrote a (r ∷ []) b (Err g) → Wrote a₀ whole b (Err g)
+    copy_stop g e w = reaches_stop a₀ a whole (making_from text pattern i params) inv b (r ∷ []) (making_from text pattern (i + 1) params) g (made_copy e).made w
 
-    pub arg_turn : (k j n : ℕ) (x : Rec) → f ≡ Some k → j ≡ after_parameter r.kind i → x ≡ argument r.pos k → Wrote room a o (x ∷ []) b (Some n) → Reaches room a₀ whole b n (making_from text pattern j params)
-    arg_turn k j n x e q d w = reaches_more room a₀ a o whole (making_from text pattern i params) inv b n (argument r.pos k ∷ []) (making_from text pattern j params) (made_arg k j e q).made (rw d at w)
+    pub arg_turn : (k j : ℕ) (x : Rec) → f ≡ Some k → j ≡ after_parameter r.kind i → x ≡ argument r.pos k → Wrote a (x ∷ []) b (Ok tt) → Reaches a₀ whole b (making_from text pattern j params)
+    arg_turn k j x e q d w = reaches_more a₀ a whole (making_from text pattern i params) inv b (argument r.pos k ∷ []) (making_from text pattern j params) (made_arg k j e q).made (rw d at w)
 
-    pub arg_stop : (k : ℕ) (x : Rec) → f ≡ Some k → x ≡ argument r.pos k → Wrote room a o (x ∷ []) b None → Wrote room a₀ 0 whole b None
-    arg_stop k x e d w = reaches_stop room a₀ a o whole (making_from text pattern i params) inv b (argument r.pos k ∷ []) (making_from text pattern (after_parameter r.kind i) params) (made_arg k (after_parameter r.kind i) e refl).made (rw d at w)
+    pub arg_stop : (g : Refused) (k : ℕ) (x : Rec) → f ≡ Some k → x ≡ argument r.pos k → Wrote a (x ∷ []) b (Err g) → Wrote a₀ whole b (Err g)
+    arg_stop g k x e d w = reaches_stop a₀ a whole (making_from text pattern i params) inv b (argument r.pos k ∷ []) (making_from text pattern (after_parameter r.kind i) params) g (made_arg k (after_parameter r.kind i) e refl).made (rw d at w)
 
 pub after_later : (k i n : ℕ) → n ≡ after_parameter k i → i < n
 after_later k i n e = omega (arith, below-later k i)
 
-pub make_end : (room : ℕ) (a₀ a : List ℕ) (o : ℕ) (whole : List Rec) (text pattern params : List ℕ) (i : ℕ) → Reaches room a₀ whole a o (making_from text pattern i params) → slots pattern ≤ i → o ≤ room → Wrote room a₀ 0 whole a (Some o)
+pub make_end : (a₀ a : Output) (whole : List Rec) (text pattern params : List ℕ) (i : ℕ) → Reaches a₀ whole a (making_from text pattern i params) → slots pattern ≤ i → a.written ≤ a.room → Wrote a₀ whole a (Ok tt)
 unfolding making_from making
-make_end room a₀ a o whole text pattern params i inv h k = reaches_end room a₀ a o whole (making text (params_of params) (drop i (recs pattern)) 0) inv (rw (recs-end pattern i h)) k
+make_end a₀ a whole text pattern params i inv h k = reaches_end a₀ a whole (making text (params_of params) (drop i (recs pattern)) 0) inv (rw (recs-end pattern i h)) k
 
 -- ---- the answer
 
@@ -248,21 +248,21 @@ module _ (text pattern params a b : List ℕ) where
       let k : bad < length (recs pattern) = omega (arith, length-recs pattern) in
       answered_refusal (template_answer text (recs pattern) (recs params) room) l a b (MacroArg bad) (rw (← first, lt-ltb bad (length (recs pattern)) k))
 
-  module _ (room : ℕ) (none_is : slots pattern ≡ first_of is_arg (recs pattern)) (s : room ≡ min (length a / 24) 65536) (v : MakeReady pattern params) where
-    fitted_is : template_answer text (recs pattern) (recs params) (space a) ≡ fitted (making_from text pattern 0 params) room
-    unfolding template_answer template_records making_from params_of space
-    fitted_is =
-        let k : length (recs pattern) ≤ slots pattern = omega (arith, length-recs pattern) in
-        rw (← none_is, le-ltb (slots pattern) (length (recs pattern)) k, list_make text (trees_of (recs params)) (recs pattern) v.placed, ← s)
+module _ (text pattern params a : List ℕ) (none_is : slots pattern ≡ first_of is_arg (recs pattern)) (v : MakeReady pattern params) (o p : Output) (made : Empty a o) where
+  fitted_is : template_answer text (recs pattern) (recs params) (space a) ≡ fitted (making_from text pattern 0 params) (space a)
+  unfolding template_answer template_records making_from params_of
+  fitted_is =
+      let k : length (recs pattern) ≤ slots pattern = omega (arith, length-recs pattern) in
+      rw (← none_is, le-ltb (slots pattern) (length (recs pattern)) k, list_make text (trees_of (recs params)) (recs pattern) v.placed)
 
-    records_are : template_records text (recs pattern) (recs params) ≡ making_from text pattern 0 params
-    unfolding template_records making_from params_of
-    records_are = list_make text (trees_of (recs params)) (recs pattern) v.placed
+  records_are : template_records text (recs pattern) (recs params) ≡ making_from text pattern 0 params
+  unfolding template_records making_from params_of
+  records_are = list_make text (trees_of (recs params)) (recs pattern) v.placed
 
-    pub make_full : Wrote room a 0 (making_from text pattern 0 params) b None
-        → Answered (template_answer text (recs pattern) (recs params) (space a)) (template_records text (recs pattern) (recs params)) a b (Err NoSpace)
-    make_full w = rw (fitted_is, records_are) (answered_full room a b (making_from text pattern 0 params) w)
+  pub make_full : (b : List ℕ) (f : Refused) → Wrote o (making_from text pattern 0 params) p (Err f)
+      → Answered (template_answer text (recs pattern) (recs params) (space a)) (template_records text (recs pattern) (recs params)) a b (Err f)
+  make_full b f w = rw (fitted_is, records_are) (answered_full a o made (making_from text pattern 0 params) p b f w)
 
-    pub make_all : (n : ℕ) → Wrote room a 0 (making_from text pattern 0 params) b (Some n)
-        → Answered (template_answer text (recs pattern) (recs params) (space a)) (template_records text (recs pattern) (recs params)) a b (Ok n)
-    make_all n w = rw (fitted_is, records_are) (answered_all room a b (making_from text pattern 0 params) n w s)
+  pub make_all : (b : List ℕ) (n : ℕ) → Wrote o (making_from text pattern 0 params) p (Ok tt) → n ≡ p.written → b ≡ p.bytes.now
+      → Answered (template_answer text (recs pattern) (recs params) (space a)) (template_records text (recs pattern) (recs params)) a b (Ok n)
+  make_all b n w e q = rw (fitted_is, records_are) (answered_all a o made (making_from text pattern 0 params) p b n w e q)

@@ -1,6 +1,5 @@
 -- The first record that passes a test, by what a closure answers. Assumes nothing.
-use Prim.Native.Nat.{ℕ, ◌≤◌, min}
-use native.Mathlib.Omega.{arith}
+use Prim.Native.Nat.{ℕ}
 use mathlib.Core.Path.{◌≡◌, sym}
 use mathlib.Core.List.{List}
 use mathlib.Core.Bool.{Bool}
@@ -24,6 +23,3 @@ lacks_arg n r e = rw (eq-eqb r.kind 38 e)
 pub lacks_other : (n : ℕ) (r : Rec) (b : Bool) → (r.kind ≡ 38 → ⊥) → b ≡ eqb r.kind 38 → b ≡ lacks_pattern n r
 unfolding lacks_pattern is_macro_arg
 lacks_other n r b h e = rw (e, ne_eqb r.kind 38 h)
-
-pub few_room : (room n : ℕ) → room ≡ min n 65536 → room ≤ 65536
-few_room room n e = omega arith

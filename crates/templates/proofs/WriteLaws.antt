@@ -1,56 +1,80 @@
 -- Appending records to an output with limited space. Assumes nothing.
-use Prim.Native.Nat.{ℕ, suc, ◌+◌, ◌-◌, ◌<◌, ◌≤◌}
+use Prim.Native.Nat.{ℕ, suc, ◌+◌, ◌-◌, ◌<◌, ◌≤◌, min}
 use native.Mathlib.Omega.{arith}
 use mathlib.Core.Path.{◌≡◌, refl, sym, ◌∙◌}
 use mathlib.Core.List.{List, [], ◌∷◌, ◌++◌}
 use lib.ListN.{length, length-append, length-take, length-drop}
-use Rattle.std.specs.Prelude.{Option, Some, None}
+use Rattle.std.specs.Prelude.{Result, Ok, Err}
 use Rattle.trees.specs.declared.Rec.{Rec}
 use Rattle.records.specs.Slots.{slots, rec_at, put, writes}
 use Rattle.records.proofs.Laws.{writes-append}
 use Rattle.records.proofs.RecsLaws.{length-recs, recs-at}
-use Rattle.templates.specs.Writing.{Wrote, all, full, Reaches, slice}
+use Rattle.templates.specs.declared.Refused.{Refused}
+use Rattle.templates.specs.declared.Refused.TheVariants.{MacroArg, NoPattern, NoSpace}
+use Rattle.templates.specs.declared.output.Output.{Output}
+use Rattle.templates.specs.Answers.{space}
+use Rattle.templates.specs.Writing.{Empty, Appended, Wrote, all, full, Reaches, slice}
+
+pub empty_at : (a : List ℕ) (o : Output) (n room : ℕ) → o.bytes.now ≡ a → o.written ≡ 0 → o.room ≡ room → n ≡ slots a → room ≡ min n 65536 → Empty a o
+unfolding space
+empty_at a o n room e f g h k = record { bytes = e; written = f; room = g ∙ k ∙ rw h }
 
 -- ---- one record
 
-pub wrote_one : (room : ℕ) (a b : List ℕ) (o : ℕ) (r : Rec) → o < room → b ≡ put a o r → Wrote room a o (r ∷ []) b (Some (o + 1))
+pub wrote_one : (a b : Output) (r : Rec) → a.written < a.room → (b.written ≡ a.written + 1) × (b.room ≡ a.room) × (b.bytes.ghost_name ≡ a.bytes.ghost_name) → b.bytes.now ≡ put a.bytes.now a.written r → Wrote a (r ∷ []) b (Ok tt)
 unfolding writes
-wrote_one room a b o r h e = all refl (omega arith) e
+wrote_one a b r h e f = all (record { written = e.0; within = omega arith; bytes = f; room = e.1; same_reference = e.2 })
 
-pub wrote_full : (room : ℕ) (a : List ℕ) (o : ℕ) (r : Rec) → room ≤ o → Wrote room a o (r ∷ []) a None
-wrote_full room a o r h = full (omega arith)
+pub wrote_full : (a b : Output) (r : Rec) → a.room ≤ a.written → Wrote a (r ∷ []) b (Err NoSpace)
+wrote_full a b r h = full (omega arith)
 
 -- ---- one list after another
 
-wrote_none : (room : ℕ) (a : List ℕ) (o : ℕ) → o ≤ room → Wrote room a o [] a (Some o)
+wrote_none : (a : Output) → a.written ≤ a.room → Wrote a [] a (Ok tt)
 unfolding writes
-wrote_none room a o h = all (omega arith) h refl
+wrote_none a h = all (record { written = omega arith; within = h; bytes = refl; room = refl; same_reference = refl })
 
-wrote_both : (room : ℕ) (a b c : List ℕ) (o n : ℕ) (z : Option ℕ) (l m : List Rec) → Wrote room a o l b (Some n) → Wrote room b n m c z → Wrote room a o (l ++ m) c z
-wrote_both room a b c o n None l m (all e f g) (full q) = full (rw (length-append) (omega arith))
-wrote_both room a b c o n (Some k) l m (all e f g) (all p q r) = all (rw (length-append) (omega arith)) q (r ∙ rw (g, e) (sym (writes-append l m a o)))
+wrote_both : (a b c : Output) (z : Result (Unit {0}) Refused) (l m : List Rec) → Appended a l b → Wrote b m c z → Wrote a (l ++ m) c z
+wrote_both a b c (Err NoSpace) l m p (full q) = full (rw (length-append) (omega (arith, p.written, p.room)))
+wrote_both a b c (Err (MacroArg k)) l m p w = elim w [ ]
+wrote_both a b c (Err (NoPattern k)) l m p w = elim w [ ]
+wrote_both a b c (Ok t) l m p (all q) = all (record {
+  written = rw (length-append) (omega (arith, p.written, q.written));
+  within = omega (arith, q.within, p.room);
+  bytes = q.bytes ∙ rw (p.bytes, p.written) (sym (writes-append l m a.bytes.now a.written));
+  room = q.room ∙ p.room;
+  same_reference = q.same_reference ∙ p.same_reference;
+})
+
+appended : (a b : Output) (l : List Rec) → Wrote a l b (Ok tt) → Appended a l b
+appended a b l (all p) = p
 
 -- what did not fit does not fit with more after it
-wrote_stop : (room : ℕ) (a b : List ℕ) (o : ℕ) (l m : List Rec) → Wrote room a o l b None → Wrote room a o (l ++ m) b None
-wrote_stop room a b o l m (full f) = full (rw (length-append) (omega arith))
+wrote_stop : (a b : Output) (l m : List Rec) (f : Refused) → Wrote a l b (Err f) → Wrote a (l ++ m) b (Err f)
+wrote_stop a b l m NoSpace (full f) = full (rw (length-append) (omega arith))
+wrote_stop a b l m (MacroArg k) w = elim w [ ]
+wrote_stop a b l m (NoPattern k) w = elim w [ ]
 
-pub wrote_room : (room : ℕ) (a b : List ℕ) (o n : ℕ) (l : List Rec) → Wrote room a o l b (Some n) → n ≤ room
-wrote_room room a b o n l (all e f g) = f
+pub same_reference : (a b : Output) (l : List Rec) → Wrote a l b (Ok tt) → b.bytes.ghost_name ≡ a.bytes.ghost_name
+same_reference a b l (all p) = p.same_reference
+
+pub wrote_within : (a b : Output) (l : List Rec) → Wrote a l b (Ok tt) → b.written ≤ b.room
+wrote_within a b l (all p) = omega (arith, p.within, p.room)
 
 -- ---- the turns of a loop
 
-pub reaches_start : (room : ℕ) (a : List ℕ) (l : List Rec) → Reaches room a l a 0 l
-reaches_start room a l = record { on = λ b y w. w }
+pub reaches_start : (a : Output) (l : List Rec) → Reaches a l a l
+reaches_start a l = record { on = λ b y w. w }
 
-module _ (room : ℕ) (a₀ a : List ℕ) (o : ℕ) (whole left : List Rec) (inv : Reaches room a₀ whole a o left) where
-  pub reaches_more : (b : List ℕ) (n : ℕ) (l more : List Rec) → left ≡ l ++ more → Wrote room a o l b (Some n) → Reaches room a₀ whole b n more
-  reaches_more b n l more e w = record { on = λ c z v. inv.on c z (rw e (wrote_both room a b c o n z l more w v)) }
+module _ (a₀ a : Output) (whole left : List Rec) (inv : Reaches a₀ whole a left) where
+  pub reaches_more : (b : Output) (l more : List Rec) → left ≡ l ++ more → Wrote a l b (Ok tt) → Reaches a₀ whole b more
+  reaches_more b l more e w = record { on = λ c z v. inv.on c z (rw e (wrote_both a b c z l more (appended a b l w) v)) }
 
-  pub reaches_stop : (b : List ℕ) (l more : List Rec) → left ≡ l ++ more → Wrote room a o l b None → Wrote room a₀ 0 whole b None
-  reaches_stop b l more e w = inv.on b None (rw e (wrote_stop room a b o l more w))
+  pub reaches_stop : (b : Output) (l more : List Rec) (f : Refused) → left ≡ l ++ more → Wrote a l b (Err f) → Wrote a₀ whole b (Err f)
+  reaches_stop b l more f e w = inv.on b (Err f) (rw e (wrote_stop a b l more f w))
 
-  pub reaches_end : left ≡ [] → o ≤ room → Wrote room a₀ 0 whole a (Some o)
-  reaches_end e h = inv.on a (Some o) (rw e (wrote_none room a o h))
+  pub reaches_end : left ≡ [] → a.written ≤ a.room → Wrote a₀ whole a (Ok tt)
+  reaches_end e h = inv.on a (Ok tt) (rw e (wrote_none a h))
 
 -- ---- the records from slot i up to slot j
 
@@ -70,26 +94,39 @@ unfolding slice
 slice-length l i j h k = simp (length-take, length-drop) (omega (arith, length-recs l))
 
 -- the records up to slot i are appended
-pub record Copying (a₀ : List ℕ) (o : ℕ) (l : List ℕ) (from upto : ℕ) (a : List ℕ) (i : ℕ) : Type 0 where
-  pub wrote : writes a₀ o (slice l from upto) ≡ writes a (o + (i - from)) (slice l i upto)
+pub record Copying (a₀ : Output) (l : List ℕ) (from upto : ℕ) (a : Output) (i : ℕ) : Type 0 where
+  pub wrote : writes a₀.bytes.now a₀.written (slice l from upto) ≡ writes a.bytes.now a.written (slice l i upto)
+  pub written : a.written ≡ a₀.written + (i - from)
+  pub room : a.room ≡ a₀.room
+  pub same_reference : a.bytes.ghost_name ≡ a₀.bytes.ghost_name
 
-module _ (room : ℕ) (a : List ℕ) (o : ℕ) (l : List ℕ) (from upto : ℕ) (ordered : from ≤ upto) (inside : upto ≤ slots l) where
-  pub no_copy : room - o < upto - from → Wrote room a o (slice l from upto) a None
-  no_copy h = full (omega (arith, slice-length l from upto ordered inside))
+module _ (a : Output) (l : List ℕ) (from upto : ℕ) (ordered : from ≤ upto) (inside : upto ≤ slots l) where
+  pub no_copy : (b : Output) → a.room - a.written < upto - from → Wrote a (slice l from upto) b (Err NoSpace)
+  no_copy b h = full (omega (arith, slice-length l from upto ordered inside))
 
-  pub copied : (b : List ℕ) (i : ℕ) → Copying a o l from upto b i → upto ≤ i → upto - from ≤ room - o → o ≤ room → Wrote room a o (slice l from upto) b (Some (o + (upto - from)))
+  pub copied : (b : Output) (i : ℕ) → Copying a l from upto b i → upto ≤ i → i ≤ upto → upto - from ≤ a.room - a.written → a.written ≤ a.room → Wrote a (slice l from upto) b (Ok tt)
   unfolding writes
-  copied b i v h k here =
+  copied b i v h g k here =
       let z : slice l i upto ≡ [] = slice-none l i upto h in
-      all (omega (arith, slice-length l from upto ordered inside)) (omega arith) (sym (v.wrote ∙ rw z))
+      all (record {
+        written = omega (arith, slice-length l from upto ordered inside, v.written);
+        within = omega (arith, v.written);
+        bytes = sym (v.wrote ∙ rw z);
+        room = v.room;
+        same_reference = v.same_reference;
+      })
 
-pub copying_start : (a : List ℕ) (o : ℕ) (l : List ℕ) (from upto : ℕ) → Copying a o l from upto a from
-copying_start a o l from upto =
-    let e : o + (from - from) ≡ o = omega arith in
-    record { wrote = rw e }
+pub copying_start : (a : Output) (l : List ℕ) (from upto : ℕ) → Copying a l from upto a from
+copying_start a l from upto = record { wrote = refl; written = omega arith; room = refl; same_reference = refl }
 
-pub copying_turn : (a₀ a b l : List ℕ) (o from i upto : ℕ) (r : Rec) → b ≡ put a (o + (i - from)) r → r ≡ rec_at l i → Copying a₀ o l from upto a i → from ≤ i → i < upto → upto ≤ slots l → Copying a₀ o l from upto b (i + 1)
+pub copying_turn : (a₀ a b : Output) (l : List ℕ) (from i upto : ℕ) (r : Rec) → b.bytes.now ≡ put a.bytes.now a.written r → r ≡ rec_at l i
+    → (b.written ≡ a.written + 1) × (b.room ≡ a.room) × (b.bytes.ghost_name ≡ a.bytes.ghost_name) → Copying a₀ l from upto a i → from ≤ i → i < upto → upto ≤ slots l → Copying a₀ l from upto b (i + 1)
 unfolding writes
-copying_turn a₀ a b l o from i upto r q p v g h k =
-    let e : o + (i + 1 - from) ≡ suc (o + (i - from)) = omega arith in
-    record { wrote = v.wrote ∙ rw (slice-more l i upto h k, ← p, q, e) }
+copying_turn a₀ a b l from i upto r q p e v g h k =
+    let n : b.written ≡ suc a.written = omega (arith, e.0) in
+    record {
+      wrote = v.wrote ∙ rw (slice-more l i upto h k, ← p, q, n);
+      written = omega (arith, v.written, e.0);
+      room = e.1 ∙ v.room;
+      same_reference = e.2 ∙ v.same_reference;
+    }

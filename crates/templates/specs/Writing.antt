@@ -1,16 +1,34 @@
--- Appending records to an output with space for `room` of them: all of them, or none where they do not fit.
-use Rattle.std.specs.Prelude.{ℕ, ◌+◌, ◌-◌, ◌<◌, ◌≤◌, ◌≡◌, Option, Some, None, List, length, take, drop}
+-- Appending records to an output with limited space: all of them, or none where they do not fit.
+use Rattle.std.specs.Prelude.{ℕ, ◌+◌, ◌-◌, ◌<◌, ◌≤◌, ◌≡◌, Result, Ok, Err, List, length, take, drop}
 use Rattle.trees.specs.declared.Rec.{Rec}
 use Rattle.records.specs.Slots.{recs, writes}
+use Rattle.templates.specs.declared.Refused.{Refused}
+use Rattle.templates.specs.declared.Refused.TheVariants.{NoSpace}
+use Rattle.templates.specs.declared.output.Output.{Output}
+use Rattle.templates.specs.Answers.{space}
 
--- to the output a with o records the list l is appended: the output is b, with n records; or there is no room for all of them
-pub data Wrote (room : ℕ) (a : List ℕ) (o : ℕ) (l : List Rec) (b : List ℕ) : Option ℕ → Type 0 where
-  all : {n : ℕ} → n ≡ o + length l → n ≤ room → b ≡ writes a o l → Wrote room a o l b (Some n)
-  full : room < o + length l → Wrote room a o l b None
+-- an output in the bytes a into which nothing was written
+pub record Empty (a : List ℕ) (o : Output) : Type 0 where
+  pub bytes : o.bytes.now ≡ a
+  pub written : o.written ≡ 0
+  pub room : o.room ≡ space a
+
+-- the output a with the list l after what was written is b
+pub record Appended (a : Output) (l : List Rec) (b : Output) : Type 0 where
+  pub written : b.written ≡ a.written + length l
+  pub within : b.written ≤ a.room
+  pub bytes : b.bytes.now ≡ writes a.bytes.now a.written l
+  pub room : b.room ≡ a.room
+  pub same_reference : b.bytes.ghost_name ≡ a.bytes.ghost_name
+
+-- the list l is appended to the output a, which is b then; or there is no space for all of it
+pub data Wrote (a : Output) (l : List Rec) (b : Output) : Result (Unit {0}) Refused → Type 0 where
+  all : Appended a l b → Wrote a l b (Ok tt)
+  full : a.room < a.written + length l → Wrote a l b (Err NoSpace)
 
 -- whatever appends what is left appends the whole
-pub record Reaches (room : ℕ) (a₀ : List ℕ) (whole : List Rec) (a : List ℕ) (o : ℕ) (left : List Rec) : Type 0 where
-  pub on : (b : List ℕ) (y : Option ℕ) → Wrote room a o left b y → Wrote room a₀ 0 whole b y
+pub record Reaches (a₀ : Output) (whole : List Rec) (a : Output) (left : List Rec) : Type 0 where
+  pub on : (b : Output) (y : Result (Unit {0}) Refused) → Wrote a left b y → Wrote a₀ whole b y
 
 -- the records from slot i up to slot j
 unfoldable pub slice : List ℕ → ℕ → ℕ → List Rec

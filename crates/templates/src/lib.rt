@@ -2,6 +2,7 @@
 #![tactic(auto)]
 
 pub mod making;
+mod output;
 pub mod scans;
 pub mod substituting;
 

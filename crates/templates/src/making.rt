@@ -1,12 +1,12 @@
 // Pattern::make_macro_template of ast.rs.
-ghost use Rattle.std.specs.Prelude.{◌≡◌, ◌+◌, ◌≤◌, ◌<◌};
-ghost use Rattle.records.specs.Slots.{slots, recs};
+ghost use Rattle.std.specs.Prelude.{◌≡◌, ◌+◌, ◌≤◌, ◌<◌, IfSome, IfNone};
+ghost use Rattle.records.specs.Slots.{slots, rec_at, recs};
 ghost use Rattle.expansion.specs.Templates.{position};
 ghost use Rattle.templates.specs.Answers.{MakeReady, Params, Answered, template_answer, template_records, space};
 ghost use Rattle.templates.specs.Writing.{Wrote};
 ghost use Rattle.templates.specs.Scans.{option_of, params_of, named_at, wildcard_at, parameter_at, making_from, argument, after_parameter};
 
-use crate::scans::{MOST, append};
+use crate::output::Output;
 use crate::{Answer, Refused};
 use forms::scans::{first_macro_arg, first_where};
 use records::{rec_at, slots};
@@ -15,6 +15,7 @@ use trees::{Kind, Rec};
 use words::same;
 
 // The first parameter of a name.
+#[tactic(auto, using(crate::proofs::MakeLaws::position_is))]
 fn position(text: &[u8], name: &[u8], params: &[u8]) -> Option<usize>
     requires { Params params.now }
     ensures { option_of result ≡ position text.now name.now (params_of params.now) }
@@ -22,26 +23,28 @@ fn position(text: &[u8], name: &[u8], params: &[u8]) -> Option<usize>
     first_where(params, |p| same(name, spelling(text, p.word1)))
 }
 
+// The record at slot j, if there is one.
+fn rec_there(list: &[u8], j: usize) -> Option<Rec>
+    ensures there { IfSome result (λ r. (j < slots list.now) × (r ≡ rec_at list.now j)) }
+    ensures past { IfNone result (slots list.now ≤ j) }
+{
+    (j < slots(list)).then(|| rec_at(list, j))
+}
+
 // The parameter of the name at slot j.
 fn named_at(text: &[u8], pattern: &[u8], j: usize, params: &[u8]) -> Option<usize>
     requires { Params params.now }
     ensures { option_of result ≡ named_at text.now pattern.now j params.now }
 {
-    if j < slots(pattern) {
-        let i = rec_at(pattern, j);
-        return position(text, spelling(text, i.word1), params);
-    }
-    None
+    let name = rec_there(pattern, j)?;
+    position(text, spelling(text, name.word1), params)
 }
 
 // Whether a Wildcard stands at slot j.
 fn wildcard_at(pattern: &[u8], j: usize) -> bool
     ensures { result ≡ wildcard_at pattern.now j }
 {
-    if j < slots(pattern) {
-        return rec_at(pattern, j).kind == Kind::PatternWildcard as u8;
-    }
-    false
+    rec_there(pattern, j).is_some_and(|r| r.kind == Kind::PatternWildcard as u8)
 }
 
 // The parameter that the record at slot i stands for: that of a Var named as one, or of such a Bind over a Wildcard.
@@ -51,19 +54,16 @@ fn parameter_at(text: &[u8], pattern: &[u8], i: usize, params: &[u8]) -> Option<
     ensures { option_of result ≡ parameter_at text.now pattern.now i params.now }
 {
     let r = rec_at(pattern, i);
-    if r.kind == Kind::PatternVar as u8 {
-        return named_at(text, pattern, i + 1, params);
-    }
-    if r.kind != Kind::PatternBind as u8 {
-        return None;
-    }
-    if wildcard_at(pattern, i + 2) {
+    if r.kind == Kind::PatternVar as u8
+        || r.kind == Kind::PatternBind as u8 && wildcard_at(pattern, i + 2)
+    {
         return named_at(text, pattern, i + 1, params);
     }
     None
 }
 
 // A Var's name is left out, a Bind's name and Wildcard.
+#[tactic(auto, using(crate::proofs::MakeLaws::after_var, crate::proofs::MakeLaws::after_bind))]
 fn after_parameter(kind: u8, i: usize) -> usize
     requires { i ≤ 65536 }
     ensures { result ≡ after_parameter kind i }
@@ -88,31 +88,31 @@ fn argument(pos: u32, k: usize) -> Rec
     }
 }
 
-// Appends the template to an empty output: of each record a copy, or a MacroArg for what stands for a parameter. Each way reads the record
-// itself: of what a copy wants all of, a MacroArg wants little.
-fn make(text: &[u8], pattern: &[u8], params: &[u8], out: &mut [u8], room: usize) -> Option<usize>
+// Appends the template: of each record a copy, or a MacroArg for what stands for a parameter. Each way reads the record itself: of what a
+// copy wants all of, a MacroArg wants little.
+fn make(text: &[u8], pattern: &[u8], params: &[u8], out: &mut Output) -> Result<(), Refused>
     requires few { slots pattern.now ≤ 65536 }
     requires params { Params params.now }
-    requires few_written { room ≤ 65536 }
-    ensures { Wrote room out.old 0 (making_from text.now pattern.now 0 params.now) out.new result }
+    requires within { out.old.written ≤ out.old.room }
+    ensures { Wrote out.old (making_from text.now pattern.now 0 params.now) out.new result }
 {
     let end = slots(pattern);
     let mut i = 0;
-    let mut o = 0;
+    // Kept: a step is of one, two or three records, by what stands there, so that no range or chain of iterators gives the slots.
     while i < end {
         match parameter_at(text, pattern, i, params) {
             Some(k) => {
                 let r = rec_at(pattern, i);
-                o = append(out, o, argument(r.pos, k), room)?;
+                out.append(argument(r.pos, k))?;
                 i = after_parameter(r.kind, i);
             }
             None => {
-                o = append(out, o, rec_at(pattern, i), room)?;
+                out.append(rec_at(pattern, i))?;
                 i += 1;
             }
         }
     }
-    Some(o)
+    Ok(())
 }
 
 // The template of a pattern by its parameters.
@@ -123,9 +123,7 @@ pub fn make_template(text: &[u8], pattern: &[u8], params: &[u8], out: &mut [u8])
     if let Some(at) = first_macro_arg(pattern) {
         return Err(Refused::MacroArg { at: at as u32 });
     }
-    let room = slots(out).min(MOST);
-    let Some(count) = make(text, pattern, params, out, room) else {
-        return Err(Refused::NoSpace);
-    };
-    Ok(count as u32)
+    let mut output = Output::new(out);
+    make(text, pattern, params, &mut output)?;
+    Ok(output.written as u32)
 }

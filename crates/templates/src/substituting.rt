@@ -5,7 +5,8 @@ ghost use Rattle.templates.specs.Answers.{SubstituteReady, Answered, substitute_
 ghost use Rattle.templates.specs.Writing.{Wrote};
 ghost use Rattle.templates.specs.Scans.{Starts, start_of, pattern_records, filled_by, fill_from, ArgsBelow};
 
-use crate::scans::{MOST, append, append_slice, first_lacking};
+use crate::output::Output;
+use crate::scans::first_lacking;
 use crate::{Answer, Refused};
 use forms::scans::skip;
 use records::{rec_at, slots};
@@ -29,6 +30,7 @@ fn find_starts(patterns: &[u8], starts: &mut [u32]) -> usize
     let end = slots(patterns);
     let mut n = 0;
     let mut i = 0;
+    // Kept: a step is of a whole tree, so that no range or chain of iterators gives the slots.
     while i < end {
         starts[n] = i as u32;
         n += 1;
@@ -39,6 +41,7 @@ fn find_starts(patterns: &[u8], starts: &mut [u32]) -> usize
 
 impl<'a> Patterns<'a> {
     // Where the pattern k starts, or where the last one ends.
+    #[tactic(auto, using(crate::proofs::FillLaws::start_in, crate::proofs::FillLaws::start_last))]
     fn start_of(&self, k: usize) -> usize
         ensures { result ≡ start_of self.now.starts.now (length self.now.starts.now) (slots self.now.records.now) k }
     {
@@ -49,50 +52,41 @@ impl<'a> Patterns<'a> {
     }
 
     // Appends the pattern k.
-    fn append(&self, k: usize, out: &mut [u8], o: usize, room: usize) -> Option<usize>
+    fn append(&self, k: usize, out: &mut Output) -> Result<(), Refused>
         requires given { k < length self.now.starts.now }
-        requires o_le_room { o ≤ room }
-        requires few_written { room ≤ 65536 }
-        ensures { Wrote room out.old o (pattern_records self.now.records.now k) out.new result }
+        requires within { out.old.written ≤ out.old.room }
+        ensures { Wrote out.old (pattern_records self.now.records.now k) out.new result }
     {
         let from = self.start_of(k);
         let upto = self.start_of(k + 1);
-        append_slice(self.records, from, upto, out, o, room)
+        out.append_slice(self.records, from, upto)
     }
 
     // Appends what the record at slot i of the template becomes: itself, or the pattern at its index.
-    fn append_filled(
-        &self,
-        template: &[u8],
-        i: usize,
-        out: &mut [u8],
-        o: usize,
-        room: usize,
-    ) -> Option<usize>
+    #[tactic(auto, using(crate::proofs::FillLaws::arg_below, crate::proofs::FillLaws::filled_arg, crate::proofs::FillLaws::filled_copy))]
+    fn append_filled(&self, template: &[u8], i: usize, out: &mut Output) -> Result<(), Refused>
         requires args_below { ArgsBelow template.now (length self.now.starts.now) }
         requires there { i < slots template.now }
-        requires o_le_room { o ≤ room }
-        requires few_written { room ≤ 65536 }
-        ensures { Wrote room out.old o (filled_by self.now.records.now (rec_at template.now i)) out.new result }
+        requires within { out.old.written ≤ out.old.room }
+        ensures { Wrote out.old (filled_by self.now.records.now (rec_at template.now i)) out.new result }
     {
         let r = rec_at(template, i);
         if r.kind == Kind::PatternMacroArg as u8 {
-            return self.append(r.word1 as usize, out, o, room);
+            return self.append(r.word1 as usize, out);
         }
-        append(out, o, r, room)
+        out.append(r)
     }
 
-    // Appends the template with the patterns in it to an empty output.
-    fn fill(&self, template: &[u8], out: &mut [u8], room: usize) -> Option<usize>
+    // Appends the template with the patterns in it.
+    fn fill(&self, template: &[u8], out: &mut Output) -> Result<(), Refused>
         requires args_below { ArgsBelow template.now (length self.now.starts.now) }
-        requires few_written { room ≤ 65536 }
-        ensures { Wrote room out.old 0 (fill_from template.now 0 self.now.records.now) out.new result }
+        requires within { out.old.written ≤ out.old.room }
+        ensures { Wrote out.old (fill_from template.now 0 self.now.records.now) out.new result }
     {
-        let mut o = 0;
         for i in 0..slots(template) {
-            o = self.append_filled(template, i, out, o, room)?;
+            self.append_filled(template, i, out)?;
         }
-        Some(o)
+        Ok(())
     }
 }
 
@@ -110,11 +104,9 @@ fn substitute_by(template: &[u8], patterns: &[u8], starts: &mut [u32], out: &mut
         records: patterns,
         starts: &starts[..m],
     };
-    let room = slots(out).min(MOST);
-    let Some(count) = found.fill(template, out, room) else {
-        return Err(Refused::NoSpace);
-    };
-    Ok(count as u32)
+    let mut output = Output::new(out);
+    found.fill(template, &mut output)?;
+    Ok(output.written as u32)
 }
 
 // The same with a table for N patterns.

@@ -5,8 +5,8 @@ use mathlib.Core.Path.{◌≡◌, refl, sym, ◌∙◌}
 use mathlib.Core.List.{List, [], ◌∷◌}
 use mathlib.Core.Bool.{Bool, true, false}
 use lib.ListN.{length, replicate}
-use lib.Dec.{ltb}
-use borrow.Author.Tests.{lt-ltb, le-ltb, eq-eqb, ne_eqb, ltb-false, ltb-true}
+use lib.Dec.{ltb, eqb}
+use borrow.Author.Tests.{eqb-true, eqb-false, lt-ltb, le-ltb, eq-eqb, ne_eqb, ltb-false, ltb-true}
 use Rattle.trees.specs.declared.Rec.{Rec}
 use Rattle.records.specs.Slots.{slots, recs}
 use Rattle.records.specs.Result.{refused}
@@ -18,7 +18,7 @@ use Rattle.records.specs.declared.Ground.TheVariants.{PartOfARecord, BadToken, M
 use Rattle.records.specs.Grounds as grounds
 use Rattle.templates.specs.Answers.{Answer, MakeReady, SubstituteReady, Finished, Answered}
 use Rattle.templates.proofs.AnswerLaws.{finished_output, finished_number}
-use Rattle.templating.specs.Calls.{Call, stopped, comes, number, bytes, Ended, sizes, lent}
+use Rattle.templating.specs.Calls.{Call, stopped, comes, number, bytes, Ended, sizes, lent, fault}
 
 pub stops : (code r : ℕ) (l l' : List ℕ) → l' ≡ replicate (length l) 0 → r ≡ refused code 0 → Ended (stopped code) (length l) l' r
 unfolding number bytes
@@ -114,18 +114,54 @@ module _ {A : Type 0} (stop : ℕ → A) (n k : ℕ) (c : A) (e : n ≡ k) where
   unfolding lent
   lent_right a b x z h f g i j = rw (← e, eq-eqb n 0 h, ← f, g, ← i, j)
 
-module _ (n k : ℕ) (c : Call) (l' : List ℕ) (size r : ℕ) (e : n ≡ k) where
-  pub wrong_size : (a b : Bool) → (n ≡ 0 → ⊥) → Ended (stopped n) size l' r → Ended (lent stopped k a b c) size l' r
-  wrong_size a b h y = rw (lent-size stopped n k c e a b h) y
+-- the refusal of two lists, by the sizes' number n and whether they are of their kind
+module _ (n k : ℕ) (e : n ≡ k) where
+  pub fault-size : (a b : Bool) → (n ≡ 0 → ⊥) → n ≡ fault k a b
+  unfolding fault
+  fault-size a b h = sym (lent-size (λ i. i) n k 0 e a b h)
 
-  pub wrong_first : (a b x : Bool) → n ≡ 0 → x ≡ a → x ≡ false → Ended (stopped 3) size l' r → Ended (lent stopped k a b c) size l' r
-  wrong_first a b x h f g y = rw (lent-first stopped n k c e a b x h f g) y
+  pub fault-first : (a b x : Bool) → n ≡ 0 → x ≡ a → x ≡ false → 3 ≡ fault k a b
+  unfolding fault
+  fault-first a b x h f g = sym (lent-first (λ i. i) n k 0 e a b x h f g)
 
-  pub wrong_second : (a b x z : Bool) → n ≡ 0 → x ≡ a → x ≡ true → z ≡ b → z ≡ false → Ended (stopped 3) size l' r → Ended (lent stopped k a b c) size l' r
-  wrong_second a b x z h f g i j y = rw (lent-second stopped n k c e a b x z h f g i j) y
+  pub fault-second : (a b x z : Bool) → n ≡ 0 → x ≡ a → x ≡ true → z ≡ b → z ≡ false → 3 ≡ fault k a b
+  unfolding fault
+  fault-second a b x z h f g i j = sym (lent-second (λ i. i) n k 0 e a b x z h f g i j)
 
-  pub right : (a b x z : Bool) → n ≡ 0 → x ≡ a → x ≡ true → z ≡ b → z ≡ true → Ended c size l' r → Ended (lent stopped k a b c) size l' r
-  right a b x z h f g i j y = rw (lent_right stopped n k c e a b x z h f g i j) y
+  pub faultless : (a b x z : Bool) → n ≡ 0 → x ≡ a → x ≡ true → z ≡ b → z ≡ true → 0 ≡ fault k a b
+  unfolding fault
+  faultless a b x z h f g i j = sym (lent_right (λ i. i) n k 0 e a b x z h f g i j)
+
+-- two lists with no refusal
+record Right (n : ℕ) (a b : Bool) : Type 0 where
+  sized : n ≡ 0
+  first : a ≡ true
+  second : b ≡ true
+
+right : (n : ℕ) (a b : Bool) → 0 ≡ fault n a b → Right n a b
+right n a b e = go (eqb n 0) refl a b e
+  where
+    go : (t : Bool) → eqb n 0 ≡ t → (a b : Bool) → 0 ≡ fault n a b → Right n a b
+    go true p true true e = record { sized = eqb-true n 0 p; first = refl; second = refl }
+    go true p true false e = absurd (omega (arith, e, fault-second n n refl true false true false (eqb-true n 0 p) refl refl refl refl))
+    go true p false b e = absurd (omega (arith, e, fault-first n n refl false b false (eqb-true n 0 p) refl refl))
+    go false p a b e = absurd (eqb-false n 0 p (sym (e ∙ sym (fault-size n n refl a b (eqb-false n 0 p)))))
+
+module _ (n r : ℕ) (a b : Bool) (e : r ≡ fault n a b) (c : Call) (l' : List ℕ) (size x : ℕ) where
+  pub refused_call : (r ≡ 0 → ⊥) → Ended (stopped r) size l' x → Ended (lent stopped n a b c) size l' x
+  unfolding lent fault
+  refused_call h y = go (eqb n 0) refl a b e
+    where
+      go : (t : Bool) → eqb n 0 ≡ t → (a b : Bool) → r ≡ fault n a b → Ended (lent stopped n a b c) size l' x
+      go true p true true e = absurd (h (rw p at e))
+      go true p true false e = rw p (rw (rw p at e) at y)
+      go true p false b e = rw p (rw (rw p at e) at y)
+      go false p a b e = rw p (rw (rw p at e) at y)
+
+  pub right_call : r ≡ 0 → Ended c size l' x → Ended (lent stopped n a b c) size l' x
+  right_call h y =
+      let w = right n a b (sym h ∙ e) in
+      rw (lent_right stopped n n c refl a b a b w.sized refl w.first refl w.second) y
 
 pub short-first : (text second n : ℕ) (l : List ℕ) → n ≡ sizes text (length l) second → n ≡ 0 → slots l ≤ 65536
 short-first text second n l s z = (short text (length l) second (sym z ∙ s)).0
@@ -139,11 +175,14 @@ pub finished : (wanted : Answer) (complete : List Rec) (a b c : List ℕ) (r : A
 unfolding number bytes
 finished wanted complete a b c r x p q e = record { returns = finished_number wanted complete a b c r x p q; output = finished_output wanted complete a b c r x p q e }
 
-module _ (text : ℕ) (l m : List ℕ) (n : ℕ) (s : n ≡ sizes text (length l) (length m)) (z : n ≡ 0) where
-  pub ready_to_make : (x y : Bool) → x ≡ is_one text pattern (recs l) → x ≡ true → y ≡ is_many text name (recs m) → y ≡ true → MakeReady l m
-  ready_to_make x y i a j b = let w = short text (length l) (length m) (sym z ∙ s) in record { few = w.0; placed = fits-placed (recs l) text 0 (pattern ∷ []) (sym i ∙ a); idents = record { leaves = fits-names (recs m) text (sym j ∙ b) } }
+module _ (text : ℕ) (l m : List ℕ) where
+  pub ready_to_make : 0 ≡ fault (sizes text (length l) (length m)) (is_one text pattern (recs l)) (is_many text name (recs m)) → MakeReady l m
+  ready_to_make e =
+      let w = right _ _ _ e in
+      record { few = (short text (length l) (length m) (sym w.sized)).0; placed = fits-placed (recs l) text 0 (pattern ∷ []) w.first; idents = record { leaves = fits-names (recs m) text w.second } }
 
-  pub ready_to_substitute : (x y : Bool) → x ≡ is_one text pattern (recs l) → x ≡ true → y ≡ is_many text pattern (recs m) → y ≡ true → SubstituteReady l m
-  ready_to_substitute x y i a j b =
-      let w = short text (length l) (length m) (sym z ∙ s) in
-      record { few = w.0; few_patterns = w.1; placed = fits-placed (recs l) text 0 (pattern ∷ []) (sym i ∙ a); args = fits-args (recs l) text 0 (pattern ∷ []) (sym i ∙ a); patterns_placed = fits-placed (recs m) text pattern [] (sym j ∙ b) }
+  pub ready_to_substitute : 0 ≡ fault (sizes text (length l) (length m)) (is_one text pattern (recs l)) (is_many text pattern (recs m)) → SubstituteReady l m
+  ready_to_substitute e =
+      let w = right _ _ _ e in
+      let s = short text (length l) (length m) (sym w.sized) in
+      record { few = s.0; few_patterns = s.1; placed = fits-placed (recs l) text 0 (pattern ∷ []) w.first; args = fits-args (recs l) text 0 (pattern ∷ []) w.first; patterns_placed = fits-placed (recs m) text pattern [] w.second }

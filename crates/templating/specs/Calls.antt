@@ -49,6 +49,10 @@ sizes text first second =
 unfoldable pub lent : {A : Type 0} → (ℕ → A) → ℕ → Bool → Bool → A → A
 lent stop n first second c = pick (eqb n 0) (pick first (pick second c (stop 3)) (stop 3)) (stop n)
 
+-- the number of the refusal at place 0 of two lists, 0 where there is none
+unfoldable pub fault : ℕ → Bool → Bool → ℕ
+fault n first second = lent (λ k. k) n first second 0
+
 -- isle_make_template: one pattern and its parameters
 unfoldable pub making : List ℕ → List ℕ → List ℕ → List ℕ → Call
 making text patt params out =

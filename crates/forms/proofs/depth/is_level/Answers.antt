@@ -1,8 +1,6 @@
-use Rattle.forms.proofs.DepthTurns.{sort_level, no_level}
+use Rattle.std.proofs.Common.{rules}
+use Rattle.forms.proofs.DepthTurns.{row_level}
 use Rattle.forms.proofs.depth.is_level.Goals as goal
 
-pub returns-in-None : goal.returns-in-None
-returns-in-None c = search no_level
-
-pub returns-in-Some : goal.returns-in-Some
-returns-in-Some c = search sort_level
+pub returns : goal.returns
+returns c = row_level _ _ _ _ _ c.row_of.ensures c.is_some_and.ensures (λ w p. search rules)

@@ -1,23 +1,27 @@
-use Rattle.forms.proofs.JudgeLaws.{stands_unsorted, sort_is, stands_nowhere, stands_other, stands_flags, stands_position, stands_words, stands_all}
+use Rattle.std.proofs.Common.{◌∙◌, sym, inl, inr}
+use Rattle.forms.proofs.JudgeLaws.{stands_other, stands_flags, stands_position, stands_words, stands_all}
+use Rattle.forms.proofs.judge.may_stand.Goals.{then-r-w, else-r-w, then-position_ok, else-position_ok}
 use Rattle.forms.proofs.judge.may_stand.Goals as goal
 
-pub returns-in_default : goal.returns-in_default
-returns-in_default c = search stands_unsorted
+pub returns-then-words_ok : goal.returns-then-words_ok
+returns-then-words_ok c =
+    elim c.if-position_ok.branch [
+      | then-position_ok u ↦
+          elim c.if-r-w.branch [
+            | then-r-w v ↦
+                stands_all _ _ _ _ _ c.is_placed.ensures _ _ _ v.position_ok.ensures u.words_ok.ensures c.singles.ensures v.if-r-w.true.0 v.if-r-w.true.1 (sym v.value-is ∙ u.if-position_ok.true) (sym u.value-is ∙ c.if-words_ok.true)
+            | else-r-w v ↦ absurd (cc)
+          ]
+      | else-position_ok u ↦ absurd (cc)
+    ]
 
-pub returns-then-s-eq0 : goal.returns-then-s-eq0
-returns-then-s-eq0 c = search stands_nowhere
-
-pub returns-then-not-is_placed : goal.returns-then-not-is_placed
-returns-then-not-is_placed c = search (stands_other, sort_is)
-
-pub returns-then-r-w : goal.returns-then-r-w
-returns-then-r-w c = search stands_flags
-
-pub returns-then-not-position_ok : goal.returns-then-not-position_ok
-returns-then-not-position_ok c = search stands_position
-
-pub returns-then-not-words_ok : goal.returns-then-not-words_ok
-returns-then-not-words_ok c = search stands_words
-
-pub returns : goal.returns
-returns c = search (stands_all, sort_is)
+pub returns-else-words_ok : goal.returns-else-words_ok
+returns-else-words_ok c =
+    c.if-words_ok.false ∙ elim c.if-position_ok.branch [
+      | then-position_ok u ↦ stands_words _ _ _ _ _ u.words_ok.ensures (sym u.value-is ∙ c.if-words_ok.false)
+      | else-position_ok u ↦
+          elim c.if-r-w.branch [
+            | then-r-w v ↦ stands_position _ _ _ _ _ v.position_ok.ensures (sym v.value-is ∙ u.if-position_ok.false)
+            | else-r-w v ↦ elim v.if-r-w.either [ inl e ↦ stands_flags _ _ _ _ e.1 | inr e ↦ stands_other _ _ _ _ _ c.is_placed.ensures e ]
+          ]
+    ]

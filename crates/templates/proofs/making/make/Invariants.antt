@@ -4,7 +4,8 @@ use Rattle.templates.specs.Scans.{making_from}
 use Rattle.templates.proofs.making.make.Given as goal
 
 abbrev pub invariant-loop-i : goal.invariant-loop-i
-invariant-loop-i l = Reaches l.room l.initial.out (making_from l.text l.pattern 0 l.params) l.out l.o (making_from l.text l.pattern l.i l.params) × (l.o ≤ l.room)
+invariant-loop-i l =
+    Reaches l.initial.out (making_from l.text l.pattern 0 l.params) l.out (making_from l.text l.pattern l.i l.params) × (l.out.written ≤ l.out.room)
 
 abbrev pub decreases-loop-i : goal.decreases-loop-i
 decreases-loop-i l = l.end - l.i

@@ -4,4 +4,5 @@ use Rattle.templates.specs.Scans.{fill_from}
 use Rattle.templates.proofs.substituting.Patterns.fill.Given as goal
 
 abbrev pub invariant-loop-i : goal.invariant-loop-i
-invariant-loop-i l = Reaches l.room l.initial.out (fill_from l.template 0 l.self.records.now) l.out l.o (fill_from l.template l.i l.self.records.now) × (l.o ≤ l.room)
+invariant-loop-i l =
+    Reaches l.initial.out (fill_from l.template 0 l.self.records.now) l.out (fill_from l.template l.i l.self.records.now) × (l.out.written ≤ l.out.room)

@@ -1,7 +1,0 @@
-use Rattle.std.proofs.Common.{◌≡◌}
-use Rattle.forms.specs.Stack.{pending}
-use Rattle.forms.specs.Depth.{settle}
-use Rattle.forms.proofs.depth.settled.Given as goal
-
-abbrev pub invariant-loop-d : goal.invariant-loop-d
-invariant-loop-d l = settle (pending l.counts l.d) ≡ settle (pending l.counts l.depth)

@@ -1,5 +1,0 @@
-use Rattle.forms.proofs.ScanLaws.{same_pending}
-use Rattle.forms.proofs.judge.scan_with.Goals as goal
-
-pub returns : goal.returns
-returns g c = search same_pending

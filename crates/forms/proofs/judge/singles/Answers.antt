@@ -1,5 +1,0 @@
-use Rattle.forms.proofs.JudgeLaws.{singles_are}
-use Rattle.forms.proofs.judge.singles.Goals as goal
-
-pub returns : goal.returns
-returns c = search singles_are
