@@ -98,6 +98,19 @@ module _ (text defs p s o s₁ o₁ : List ℕ) where
 
 -- ---- the checks
 
+module _ (n k : ℕ) (c : Outcome) (b b' : Outputs) (r : ℕ) (e : n ≡ k) where
+  pub wrong_size : (x y : Bool) → (n ≡ 0 → ⊥) → Left (stopped n) b b' r → Left (lent stopped k x y c) b b' r
+  wrong_size x y h l = rw (lent-size stopped n k c e x y h) l
+
+  pub wrong_first : (x y z : Bool) → n ≡ 0 → z ≡ x → z ≡ false → Left (stopped 3) b b' r → Left (lent stopped k x y c) b b' r
+  wrong_first x y z h f g l = rw (lent-first stopped n k c e x y z h f g) l
+
+  pub wrong_second : (x y z w : Bool) → n ≡ 0 → z ≡ x → z ≡ true → w ≡ y → w ≡ false → Left (stopped 3) b b' r → Left (lent stopped k x y c) b b' r
+  wrong_second x y z w h f g i j l = rw (lent-second stopped n k c e x y z w h f g i j) l
+
+  pub right : (x y z w : Bool) → n ≡ 0 → z ≡ x → z ≡ true → w ≡ y → w ≡ true → Left c b b' r → Left (lent stopped k x y c) b b' r
+  right x y z w h f g i j l = rw (lent_right stopped n k c e x y z w h f g i j) l
+
 module _ (text defs p : List ℕ) where
   abbrev size : ℕ
   size = sizes (length text) (length defs) (length p)
