@@ -48,8 +48,7 @@ pub fn judge_definitions(known: &Extractors, defs: &Definitions) -> Result<(), F
     let end = slots(defs.records);
     let mut earlier = 0;
     let mut i = 0;
-    // Kept: where a tree ends is known only once it is read, by judging it or by skip, so that no range says the next index; and what judging
-    // found is not read again by an iterator of trees.
+    // Kept: where a tree ends is known only once it is judged, or skip has read it, so that no range says the next index.
     while i < end {
         let r = rec_at(defs.records, i);
         if r.kind != Kind::Extractor as u8 {
