@@ -3,7 +3,6 @@ use mathlib.Core.Path.{◌≡◌, refl, sym, ap, ◌∙◌}
 use mathlib.Core.Bool.{Bool, true, false}
 use mathlib.Core.Option.{Option, none, some}
 use Rattle.std.specs.Prelude.{Option as Maybe, Some, None}
-use Rattle.records.specs.declared.Ground.{Ground}
 use mathlib.Core.List.{List, [], ◌∷◌}
 use Prim.Native.Nat.{ℕ, ◌+◌, ◌-◌, ◌<◌, ◌≤◌}
 use native.Mathlib.Decide.{dec_lt}
@@ -27,15 +26,15 @@ use Rattle.grounds.specs.Order.{by_call, call_flaw, is_some}
 use Rattle.grounds.proofs.At.{here, past}
 use Rattle.judging.specs.declared.table.Entry.{Entry}
 use Rattle.judging.specs.Table.{arity_in, looked}
-use Rattle.judging.specs.Judging.{children_at, Known, known_all, mark_of, by_number, its_flaw, MarkedAt}
+use Rattle.judging.specs.Judging.{children_at, Known, known_all, by_number, its_flaw, MarkedAt}
 use Rattle.judging.proofs.LookLaws.{found-row, missing-row, first-row, rows-first, rows-others, least, missing-all, seek, looked_is, looked_some, looked_none}
 
 -- ---- by a number
 
 module _ (t : List Entry) (earlier : ℕ) (o : Maybe ℕ) (c : ℕ) where
-  pub number-none : (r : Maybe Ground) → o ≡ None → r ≡ None → mark_of r ≡ by_number t earlier o c
+  pub number-none : o ≡ None → 0 ≡ by_number t earlier o c
   unfolding by_number
-  number-none r e q = rw (e, q)
+  number-none e = rw e
 
   module _ (x : ℕ) (is : o ≡ Some x) where
     pub number-later : earlier ≤ x → 32 ≡ by_number t earlier o c

@@ -49,11 +49,11 @@ module _ (defs : List ℕ) (i c : ℕ) (x : ExtractorAt defs i c) where
     again_flawed y e h =
         record { gives = λ k. rw (first-name text k.first, name-is text t (rec_at defs (i + 1)).word1 earlier 0 k y (its-row ∙ e) h); low = omega (arith, x.more) }
 
-    pub again_fine : (y : ℕ) → o ≡ Some y → earlier ≤ y → (m : ℕ) → StageJudged (named_again text) text t earlier defs i (Ok m)
+    pub again_fine : (y : ℕ) → o ≡ Some y → earlier ≤ y → (m : Unit {0}) → StageJudged (named_again text) text t earlier defs i (Ok m)
     unfolding first_from Low
     again_fine y e h m = record { gives = λ k. rw (first-name text k.first, name_not text t (rec_at defs (i + 1)).word1 earlier 0 k y (its-row ∙ e) h); low = tt }
 
-    pub again-nowhere : o ≡ None → (m : ℕ) → StageJudged (named_again text) text t earlier defs i (Ok m)
+    pub again-nowhere : o ≡ None → (m : Unit {0}) → StageJudged (named_again text) text t earlier defs i (Ok m)
     unfolding first_from Low
     again-nowhere e m = record { gives = λ k. rw (first-name text k.first, name-nowhere text t (rec_at defs (i + 1)).word1 earlier 0 k (its-row ∙ e)); low = tt }
 
@@ -61,10 +61,10 @@ module _ (defs : List ℕ) (i c : ℕ) (x : ExtractorAt defs i c) where
 
   module _ (text : List ℕ) (t : List Entry) (earlier : ℕ) where
     pub by_again : (f : Flaw) → StageJudged (named_again text) text t earlier defs i (Err f) → ExtractorJudged text t earlier defs i (Err f)
-    unfolding verdict
+    unfolding verdict Low
     by_again f q = record { gives = λ y. flawed_first f _ _ (q.gives y); low = q.low; ends = λ m d. absurd (flawed_fine f m d) }
 
-    module _ (m : ℕ) (r : StageJudged (named_again text) text t earlier defs i (Ok m)) where
+    module _ (m : Unit {0}) (r : StageJudged (named_again text) text t earlier defs i (Ok m)) where
       calls_at : (y : Known text t earlier) → first_from (i + 1) (marks_all (call_flaw text (known_all y) y.first) (firsts c (trees_of (drop (i + 1) (recs defs))))) ≡ found (its_calls text (known_all y) (site_at defs i y.first))
       calls_at y = ap (λ (ts : Trees). first_from (i + 1) (marks_all (call_flaw text (known_all y) y.first) ts)) (sym children_are) ∙ rw (add-one i)
 
@@ -72,7 +72,7 @@ module _ (defs : List ℕ) (i c : ℕ) (x : ExtractorAt defs i c) where
       unfolding verdict child_at
       by_calls j q =
           record {
-            gives = λ y. fine-next j m _ _ (r.gives y) (q.gives y ∙ calls_at y ∙ sym (or_else_none (found (its_calls text (known_all y) (site_at defs i y.first)))));
+            gives = λ y. fine-next j _ _ (r.gives y) (q.gives y ∙ calls_at y ∙ sym (or_else_none (found (its_calls text (known_all y) (site_at defs i y.first)))));
             low = q.low;
             ends = λ l e. q.ends l e ∙ ap (λ (d : ℕ). i + 1 + span (drop (i + 1) (recs defs)) d) x.size ∙ child-last (recs defs) i (rec_at defs i) (here defs i (omega (arith, x.more)));
           }

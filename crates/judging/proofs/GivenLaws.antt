@@ -1,25 +1,25 @@
 -- What an answer gives, where one ground is judged after another. Assumes nothing.
 use mathlib.Core.Path.{◌≡◌, ap, ◌∙◌}
-use mathlib.Core.Option.{Option}
+use mathlib.Core.Option.{Option, none}
 use Prim.Native.Nat.{ℕ, ◌<◌}
 use native.Mathlib.Omega.{arith}
 use Rattle.grounds.specs.Stages.{Refusal, ◌or_else◌}
-use Rattle.std.specs.Prelude.{Ok, Err}
+use Rattle.std.specs.Prelude.{Result, Ok, Err}
 use Rattle.records.specs.declared.Ground.{Ground}
 use Rattle.records.specs.declared.Ground.TheVariants.{PartOfARecord, BadToken, MalformedList, MacroArg, MacroArgIndex, NoSpace, TooMuch, TooDeep, UnexpectedToken, UnexpectedEnd, UnknownDefinition, EmptyIdentifier, FirstCharacter, LaterCharacter, NotAConstant, UnknownPragma, TypeModifier, TypeDefinition, Attribute, VerificationAttribute, Extern, RuleName, Priority, Pattern, Expression, UncoveredWord, ExtractorName, ArgumentCount, CallOrder, TooManyExtractors, NotAToken, NotAscii}
 use Rattle.records.specs.Grounds.{number}
 use Rattle.judging.specs.declared.Flaw.{Flaw}
-use Rattle.judging.specs.Judging.{Judged, given}
+use Rattle.judging.specs.Judging.{given}
 
 -- a refusal is the first of two, whatever comes after it
-pub flawed_first : (f : Flaw) (g h : Option Refusal) → given (Err f) ≡ g → given (Err f) ≡ g or_else h
+pub flawed_first : (f : Flaw) (g h : Option Refusal) → given {A = ℕ} (Err f) ≡ g → given {A = ℕ} (Err f) ≡ g or_else h
 flawed_first f g h q = ap (◌or_else h) q
 
 -- a fine answer leaves the second
-pub fine-next : (j : Judged) (m : ℕ) (g h : Option Refusal) → given (Ok m) ≡ g → given j ≡ h → given j ≡ g or_else h
-fine-next j m g h p q = q ∙ ap (◌or_else h) p
+pub fine-next : {A : Type 0} (j : Result A Flaw) (g h : Option Refusal) → none ≡ g → given j ≡ h → given j ≡ g or_else h
+fine-next j g h p q = q ∙ ap (◌or_else h) p
 
-pub flawed_fine : (f : Flaw) (n : ℕ) → ◌≡◌ {A = Judged} (Err f) (Ok n) → ⊥
+pub flawed_fine : {A : Type 0} (f : Flaw) (n : A) → ◌≡◌ {A = Result A Flaw} (Err f) (Ok n) → ⊥
 flawed_fine f n e = let z : ◌≡◌ {A = ℕ} 0 1 = cc in omega arith
 
 -- no ground has the number 0

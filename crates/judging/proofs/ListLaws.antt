@@ -65,7 +65,7 @@ module _ (text defs : List ℕ) (t : List Entry) (earlier i end : ℕ) (g : List
   pub listing_fits : Fits w64 (earlier + 1)
   listing_fits = omega (arith, listing_few, b.few)
 
-  pub listing_end : (m : ℕ) → end ≤ i → ListJudged text defs (Ok m)
+  pub listing_end : (m : Unit {0}) → end ≤ i → ListJudged text defs (Ok m)
   unfolding Low trees_of sites in_turn verdict
   listing_end m h = let z : drop i (recs defs) ≡ [] = past defs i (omega arith) in record { gives = sym (g.leads ∙ rw z); low = tt }
 
@@ -136,7 +136,7 @@ module _ (text defs : List ℕ) (t : List Entry) (earlier i end : ℕ) (g : List
           ∙ ap (λ (s : Rec). verdict (stages_of text (known_all known) (record { place = i; children = firsts s.count (trees_of (drop (i + 1) (recs defs))); earlier = g.first })) or_else others-after) is
 
       pub listing_flawed : (f : Flaw) → ExtractorJudged text t earlier defs i (Err f) → ListJudged text defs (Err f)
-      unfolding table_known
+      unfolding table_known Low
       listing_flawed f q = record { gives = ap (◌or_else others-after) (q.gives known) ∙ sym (g.leads ∙ this); low = q.low }
 
       pub listing_after : (next : ℕ) → ExtractorJudged text t earlier defs i (Ok next) → end - next < end - i

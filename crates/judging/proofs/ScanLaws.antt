@@ -1,13 +1,14 @@
 -- The ways through a scan of trees, by any number f of a node. Assumes nothing.
 use mathlib.Core.Path.{◌≡◌, refl, sym, ap, ◌∙◌}
+use mathlib.Core.Bool.{Bool, true, false}
 use mathlib.Core.List.{List, [], ◌∷◌, ◌++◌, append_assoc}
-use Prim.Native.Nat.{ℕ, suc, ◌+◌, ◌-◌, ◌<◌, ◌≤◌}
+use Prim.Native.Nat.{ℕ, zero, suc, ◌+◌, ◌-◌, ◌<◌, ◌≤◌, max}
 use native.Mathlib.Numerals.{add-one}
 use native.Mathlib.Decide.{dec_lt}
 use native.Mathlib.Omega.{arith}
+use lib.Dec.{leb}
 use lib.ListN.{length, drop, length-drop}
-use mir.Syntax.{w64}
-use mir.Val.{Fits}
+use borrow.Author.Tests.{leb-true, leb-false}
 use Rattle.trees.specs.declared.Rec.{Rec}
 use Rattle.trees.specs.declared.Head.{Head}
 use Rattle.trees.specs.Tree.{Trees, ∅, ◌▸◌, ◌⧺◌, count, firsts, others, head_of, trees_of}
@@ -18,11 +19,15 @@ use Rattle.expansion.proofs.IndexLaws.{all-at}
 use Rattle.grounds.specs.Stages.{first_from, marks, marks_all}
 use Rattle.grounds.proofs.FirstLaws.{flaw_here, flaw_next}
 use Rattle.grounds.proofs.At.{here, past, length-recs}
-use Rattle.std.specs.Prelude.{Option as Maybe, Some, None, Ok, Err}
+use Rattle.std.specs.Prelude.{Result, Ok, Err}
 use Rattle.records.specs.declared.Ground.{Ground}
 use Rattle.records.specs.Grounds.{number}
 use Rattle.judging.proofs.GivenLaws.{number_some}
 use Rattle.judging.specs.Judging.{flaw, mark_of, Low, MarkedAt, Scanned}
+
+positive : (n : ℕ) → (n ≡ 0 → ⊥) → 0 < n
+positive zero h = absurd (h refl)
+positive (suc n) h = omega arith
 
 -- ---- trees that are still to be read
 
@@ -74,12 +79,29 @@ pub scanning_start : {A : Type 0} (f : A → Head → Trees → ℕ) (src : List
 scanning_start f src at trees l a h = record { few = l; placed = a; there = h; ends = refl; leads = λ x. refl }
 
 module _ {A : Type 0} (f : A → Head → Trees → ℕ) (src : List ℕ) (at trees todo k : ℕ) (g : Scanning f src at trees todo k) where
-  pub scanning_end : todo ≤ 0 → Scanned f src at trees (Ok k)
+  pub scanning_end : todo ≡ 0 → Scanned f src at trees (Ok k)
   unfolding Low firsts marks first_from
-  scanning_end h =
-      let z : todo ≡ 0 = omega arith in
+  scanning_end z =
       let s : span (drop k (recs src)) todo ≡ 0 = rw z (span-zero (drop k (recs src))) in
       record { gives = λ x. sym (g.leads x ∙ rw z); low = tt; ends = λ m e. let c : m ≡ k = cc in omega (arith, g.ends) }
+
+  -- past the last record there is no tree
+  gone : (i m : ℕ) → slots src ≤ i → m ≤ count (trees_of (drop i (recs src))) → m ≡ 0
+  unfolding trees_of count
+  gone i m h l = let z : drop i (recs src) ≡ [] = past src i h in let e : count (trees_of (drop i (recs src))) ≡ 0 = rw z in omega arith
+
+  pub scanning_ended : (end j : ℕ) → trees ≤ count (trees_of (drop at (recs src))) → end ≡ slots src → end ≤ k → (at ≤ end → k ≤ end) → j ≡ max at end → Scanned f src at trees (Ok j)
+  unfolding Low
+  scanning_ended end j l all h u e =
+      let w : Scanned f src at trees (Ok k) = scanning_end (gone k todo (omega arith) g.there) in
+      record { gives = w.gives; low = tt; ends = λ m q. let c : m ≡ j = cc in c ∙ go w (leb end at) refl }
+    where
+      go : Scanned f src at trees (Ok k) → (b : Bool) → leb end at ≡ b → j ≡ at + span (drop at (recs src)) trees
+      go w true q =
+          let z : trees ≡ 0 = gone at trees (omega (arith, leb-true end at q)) l in
+          let s : span (drop at (recs src)) trees ≡ 0 = rw z (span-zero (drop at (recs src))) in
+          omega (arith, leb-true end at q)
+      go w false q = omega (arith, leb-false end at q, u (omega (arith, leb-false end at q)), w.ends k refl)
 
   pub scanning_inside : 0 < todo → k < slots src
   scanning_inside h = tree-inside src k todo h g.there
@@ -87,15 +109,12 @@ module _ {A : Type 0} (f : A → Head → Trees → ℕ) (src : List ℕ) (at tr
   pub scanning_few : todo ≤ 65536
   scanning_few = omega (arith, g.few, g.there, trees-few (drop k (recs src)), length-drop k (recs src), length-recs src)
 
-  pub scanning_on : 0 < todo → Fits w64 (k + 1)
-  scanning_on h = omega (arith, g.few, scanning_inside h)
+  module _ (found : Result (Unit {0}) Ground) (judged : MarkedAt f src k (mark_of found)) (more : todo ≡ 0 → ⊥) where
+    some : 0 < todo
+    some = positive todo more
 
-  pub scanning_less : 0 < todo → slots src - (k + 1) < slots src - k
-  scanning_less h = omega (arith, scanning_inside h)
-
-  module _ (found : Maybe Ground) (judged : MarkedAt f src k (mark_of found)) (more : 0 < todo) where
     split : drop k (recs src) ≡ rec_at src k ∷ drop (k + 1) (recs src)
-    split = here src k (scanning_inside more)
+    split = here src k (scanning_inside some)
 
     mark : (x : A) → marks_all (f x) (firsts todo (trees_of (drop k (recs src)))) ≡ mark_of found ∷ marks_all (f x) (firsts (todo - 1 + (rec_at src k).count) (trees_of (drop (k + 1) (recs src))))
     unfolding MarkedAt
@@ -107,22 +126,22 @@ module _ {A : Type 0} (f : A → Head → Trees → ℕ) (src : List ℕ) (at tr
         ∙ marks_step (f x) (rec_at src k) (drop (k + 1) (recs src)) (todo - 1)
         ∙ rw (← (judged x), c)
 
-    pub scanning_flawed : (y : Ground) → found ≡ Some y → Scanned f src at trees (Err (flaw y k))
+    pub scanning_flawed : (y : Ground) → found ≡ Err y → Scanned f src at trees (Err (flaw y k))
     unfolding Low
     scanning_flawed y is =
         record {
           gives = λ x. sym (g.leads x ∙ ap (first_from k) (mark x) ∙ rw is (flaw_here k (number y) _ (number_some y)));
-          low = scanning_inside more;
+          low = scanning_inside some;
           ends = λ m e. absurd (let u : ◌≡◌ {A = ℕ} 0 1 = cc in omega arith);
         }
 
-    pub scanning_next : (r : Rec) → r ≡ rec_at src k → found ≡ None → Scanning f src at trees (todo - 1 + r.count) (k + 1)
+    pub scanning_next : (r : Rec) (u : Unit {0}) → r ≡ rec_at src k → found ≡ Ok u → Scanning f src at trees (todo - 1 + r.count) (k + 1)
     unfolding span
-    scanning_next r is z =
+    scanning_next r u is z =
         record {
           few = g.few;
           placed = g.placed;
-          there = there-next src k todo r is (scanning_inside more) g.placed more g.there;
+          there = there-next src k todo r is (scanning_inside some) g.placed some g.there;
           ends =
               let m : todo ≡ suc (todo - 1) = omega arith in
               let c : (rec_at src k).count + (todo - 1) ≡ todo - 1 + r.count = rw is (omega arith) in

@@ -24,7 +24,7 @@ use Rattle.grounds.proofs.FirstLaws.{shifted, flaw_there, flaw_nowhere, flaw_shi
 use Rattle.grounds.proofs.ShapeLaws.{only_at, only_zero}
 use Rattle.grounds.proofs.StageLaws.{verdict_++, or_else_none}
 use Rattle.grounds.proofs.At.{length-recs}
-use Rattle.std.specs.Prelude.{Option as Maybe, Some, None, Ok, Err, IfSome, unwrap_or}
+use Rattle.std.specs.Prelude.{Option as Maybe, Some, None, Result, Ok, Err, IfSome, unwrap_or}
 use Rattle.records.specs.declared.Ground.{Ground}
 use Rattle.records.specs.Grounds as grounds
 use Rattle.records.specs.declared.Ground.TheVariants.{MacroArg, TooDeep}
@@ -38,23 +38,29 @@ use Rattle.judging.proofs.RowLaws.{table_known}
 
 -- ---- one ground after another
 
-low_by : (m n : ℕ) (j : Judged) → m ≤ n → Low m j → Low n j
+low_by : {A : Type 0} (m n : ℕ) (j : Result A Flaw) → m ≤ n → Low m j → Low n j
 unfolding Low
 low_by m n (Ok k) h l = tt
 low_by m n (Err f) h l = omega arith
 
-wider : (g : Option Refusal) (m k : ℕ) (j : Judged) → m ≤ k → Answers g m j → Answers g k j
+wider : {A : Type 0} (g : Option Refusal) (m k : ℕ) (j : Result A Flaw) → m ≤ k → Answers g m j → Answers g k j
 wider g m k j h q = record { gives = q.gives; low = low_by m k j h q.low }
 
-first-answers : (g h : Option Refusal) (m : ℕ) (f : Flaw) → Answers g m (Err f) → Answers (g or_else h) m (Err f)
+-- a refusal, whatever a fine answer would be
+same-flaw : {A B : Type 0} (g : Option Refusal) (m : ℕ) (f : Flaw) → Answers {A = A} g m (Err f) → Answers {A = B} g m (Err f)
+unfolding Low
+same-flaw g m f a = record { gives = a.gives; low = a.low }
+
+first-answers : {A B : Type 0} (g h : Option Refusal) (m : ℕ) (f : Flaw) → Answers {A = A} g m (Err f) → Answers {A = B} (g or_else h) m (Err f)
+unfolding Low
 first-answers g h m f a = record { gives = flawed_first f g h a.gives; low = a.low }
 
 -- a fine answer gives none
-answers-none : (g : Option Refusal) (m n : ℕ) → Answers g m (Ok n) → g ≡ none
+answers-none : {A : Type 0} (g : Option Refusal) (m : ℕ) (n : A) → Answers g m (Ok n) → g ≡ none
 answers-none g m n a = sym a.gives
 
-next-answers : (g h : Option Refusal) (m n : ℕ) (j : Judged) → Answers g m (Ok n) → Answers h m j → Answers (g or_else h) m j
-next-answers g h m n j a b = record { gives = fine-next j n g h a.gives b.gives; low = b.low }
+next-answers : {A B : Type 0} (g h : Option Refusal) (m : ℕ) (n : A) (j : Result B Flaw) → Answers g m (Ok n) → Answers h m j → Answers (g or_else h) m j
+next-answers g h m n j a b = record { gives = fine-next j g h a.gives b.gives; low = b.low }
 
 -- ---- 4 and 8 in one list
 
@@ -80,11 +86,11 @@ module _ (src : List ℕ) (d : ℕ) (placed : All Placed (recs src)) where
     index_judged (Some a) i e = record { gives = sym (listed-there (grounds.number g) v p xs d a (sym e) (omega (arith, i, long))); low = omega (arith, i) }
     index_judged None i e = record { gives = sym (listed_nowhere (grounds.number g) v p xs d (slots src) (sym e) (omega (arith, long))); low = tt }
 
-  pub args_judged : (o : Maybe ℕ) → IfSome o (λ i. i < slots src) → unwrap_or o (slots src) ≡ first_macro_arg (recs src) → (r : Judged) → r ≡ judged_at o MacroArg d → Answers (found (macro_args ts d)) (d + slots src) r
+  pub args_judged : (o : Maybe ℕ) → IfSome o (λ i. i < slots src) → unwrap_or o (slots src) ≡ first_macro_arg (recs src) → (r : Result (Unit {0}) Flaw) → r ≡ judged_at o MacroArg d → Answers (found (macro_args ts d)) (d + slots src) r
   args_judged o i e r is =
       rw is (index_judged MacroArg macro_arg (kinds_all ts) (length-kinds_all ts ∙ size src placed) (omega arith) o i (e ∙ macro_arg_agrees ts (recs src) (list-records (recs src) placed)))
 
-  pub deep_judged : (o : Maybe ℕ) → IfSome o (λ i. i < slots src) → unwrap_or o (slots src) ≡ first_deep_in (recs src) → (r : Judged) → r ≡ judged_at o TooDeep d → Answers (found (too_deeps ts d)) (d + slots src) r
+  pub deep_judged : (o : Maybe ℕ) → IfSome o (λ i. i < slots src) → unwrap_or o (slots src) ≡ first_deep_in (recs src) → (r : Result (Unit {0}) Flaw) → r ≡ judged_at o TooDeep d → Answers (found (too_deeps ts d)) (d + slots src) r
   deep_judged o i e r is =
       rw is (index_judged TooDeep too_deep (depths_all 0 ts) (length-depths_all ts 0 ∙ size src placed) (omega arith) o i (e ∙ deep_agrees ts (recs src) (list-records (recs src) placed)))
 
@@ -110,9 +116,9 @@ module _ (text defs : List ℕ) (t : List Entry) where
   module _ (n : ℕ) (q : Tabled defs t (Ok n)) where
     pub others_flawed : (u : List ℕ) → u ≡ text → (f : Flaw) → ListJudged u defs (Err f) → OthersJudged text defs t (Err f)
     unfolding of_definitions verdict
-    others_flawed u e f l = record { answers = next-answers many all-turns (slots defs) n (Err f) q.answers (rw e at l); within = λ m c. absurd (flawed_fine f m c); table = λ m c. absurd (flawed_fine f m c) }
+    others_flawed u e f l = record { answers = next-answers many all-turns (slots defs) n (Err f) q.answers (same-flaw all-turns (slots defs) f (rw e at l)); within = λ m c. absurd (flawed_fine f m c); table = λ m c. absurd (flawed_fine f m c) }
 
-    pub others-fine : (u : List ℕ) → u ≡ text → (m : ℕ) → ListJudged u defs (Ok m) → OthersJudged text defs t (Ok n)
+    pub others-fine : (u : List ℕ) → u ≡ text → (m : Unit {0}) → ListJudged u defs (Ok m) → OthersJudged text defs t (Ok n)
     unfolding of_definitions verdict Low
     others-fine u e m l =
         record {
@@ -121,7 +127,7 @@ module _ (text defs : List ℕ) (t : List Entry) where
           table = λ k c. let same : n ≡ k = cc in rw (← same) (q.table n refl text);
         }
 
-pub found_all : (text defs : List ℕ) (t : List Entry) (a b c : Judged) → Answers (found (macro_args (trees_of (recs defs)) 0)) (0 + slots defs) a → Answers (found (too_deeps (trees_of (recs defs)) 0)) (0 + slots defs) b → OthersJudged text defs t c
+pub found_all : (text defs : List ℕ) (t : List Entry) (a b : Result (Unit {0}) Flaw) (c : Judged) → Answers (found (macro_args (trees_of (recs defs)) 0)) (0 + slots defs) a → Answers (found (too_deeps (trees_of (recs defs)) 0)) (0 + slots defs) b → OthersJudged text defs t c
     → FoundIn text defs t (record { args = a; deep = b; others = c })
 found_all text defs t a b c p q r = record { args = rw (zero-add (slots defs)) at p; deep = rw (zero-add (slots defs)) at q; others = r }
 
@@ -131,25 +137,25 @@ module _ (defs pattern : List ℕ) where
   abbrev end : ℕ
   end = slots defs + slots pattern
 
-  pub both-args : (args : Judged) (f : Flaw) → args ≡ Err f → Answers (found (macro_args (trees_of (recs defs)) 0)) (slots defs) args → Answers (both defs pattern) end (Err f)
+  pub both-args : (args : Result (Unit {0}) Flaw) (f : Flaw) → args ≡ Err f → Answers (found (macro_args (trees_of (recs defs)) 0)) (slots defs) args → Answers {A = Unit {0}} (both defs pattern) end (Err f)
   both-args args f p a = first-answers _ _ end f (wider _ (slots defs) end (Err f) (omega arith) (rw p at a))
 
-  module _ (args : Judged) (m : ℕ) (p : args ≡ Ok m) (a : Answers (found (macro_args (trees_of (recs defs)) 0)) (slots defs) args) where
+  module _ (args : Result (Unit {0}) Flaw) (m : Unit {0}) (p : args ≡ Ok m) (a : Answers (found (macro_args (trees_of (recs defs)) 0)) (slots defs) args) where
     a' : Answers (found (macro_args (trees_of (recs defs)) 0)) end (Ok m)
     a' = wider _ (slots defs) end (Ok m) (omega arith) (rw p at a)
 
-    pub both-more : (d : ℕ) (f : Flaw) → d ≡ slots defs → Answers (found (macro_args (trees_of (recs pattern)) d)) (d + slots pattern) (Err f) → Answers (both defs pattern) end (Err f)
+    pub both-more : (d : ℕ) (f : Flaw) → d ≡ slots defs → Answers {A = Unit {0}} (found (macro_args (trees_of (recs pattern)) d)) (d + slots pattern) (Err f) → Answers {A = Unit {0}} (both defs pattern) end (Err f)
     both-more d f e q = next-answers _ _ end m (Err f) a' (first-answers _ _ end f (rw e at q))
 
-    module _ (c n : ℕ) (r : c ≡ slots defs) (b : Answers (found (macro_args (trees_of (recs pattern)) c)) (c + slots pattern) (Ok n)) where
+    module _ (c : ℕ) (n : Unit {0}) (r : c ≡ slots defs) (b : Answers (found (macro_args (trees_of (recs pattern)) c)) (c + slots pattern) (Ok n)) where
       b' : Answers (found (macro_args (trees_of (recs pattern)) (slots defs))) end (Ok n)
       b' = rw r at b
 
-      pub both-deep : (deep : Judged) (f : Flaw) → deep ≡ Err f → Answers (found (too_deeps (trees_of (recs defs)) 0)) (slots defs) deep → Answers (both defs pattern) end (Err f)
+      pub both-deep : (deep : Result (Unit {0}) Flaw) (f : Flaw) → deep ≡ Err f → Answers (found (too_deeps (trees_of (recs defs)) 0)) (slots defs) deep → Answers {A = Unit {0}} (both defs pattern) end (Err f)
       both-deep deep f s x = next-answers _ _ end m (Err f) a' (next-answers _ _ end n (Err f) b' (first-answers _ _ end f (wider _ (slots defs) end (Err f) (omega arith) (rw s at x))))
 
-      pub both-last : (deep : Judged) (o : ℕ) → deep ≡ Ok o → Answers (found (too_deeps (trees_of (recs defs)) 0)) (slots defs) deep
-          → (j : Judged) (d : ℕ) → d ≡ slots defs → Answers (found (too_deeps (trees_of (recs pattern)) d)) (d + slots pattern) j → Answers (both defs pattern) end j
+      pub both-last : (deep : Result (Unit {0}) Flaw) (o : Unit {0}) → deep ≡ Ok o → Answers (found (too_deeps (trees_of (recs defs)) 0)) (slots defs) deep
+          → (j : Result (Unit {0}) Flaw) (d : ℕ) → d ≡ slots defs → Answers (found (too_deeps (trees_of (recs pattern)) d)) (d + slots pattern) j → Answers (both defs pattern) end j
       both-last deep o s x j d e q = next-answers _ _ end m j a' (next-answers _ _ end n j b' (next-answers _ _ end o j (wider _ (slots defs) end (Ok o) (omega arith) (rw s at x)) (rw e at q)))
 
 -- ---- places that go on after d records
@@ -208,10 +214,10 @@ module _ (text defs pattern : List ℕ) (t : List Entry) (d : DefinitionsShaped 
       ∙ ap (verdict (of_both (trees_of (recs defs)) (tree_of (recs pattern))) or_else◌) (verdict_++ (of_definitions text (trees_of (recs defs))) (of_pattern text (trees_of (recs defs)) (tree_of (recs pattern))))
       ∙ rw (both_is, pattern-is)
 
-  pub by_both : (f : Flaw) → Answers (both defs pattern) (slots defs + slots pattern) (Err f) → Grounded text defs pattern t (Err f)
+  pub by_both : (f : Flaw) → Answers {A = Unit {0}} (both defs pattern) (slots defs + slots pattern) (Err f) → Grounded text defs pattern t (Err f)
   by_both f q = record { answers = rw order_is (first-answers _ _ _ f q); within = λ n c. absurd (flawed_fine f n c); table = λ n c. absurd (flawed_fine f n c) }
 
-  module _ (m : ℕ) (l : Answers (both defs pattern) (slots defs + slots pattern) (Ok m)) where
+  module _ (m : Unit {0}) (l : Answers (both defs pattern) (slots defs + slots pattern) (Ok m)) where
     pub by_others : (o : Judged) (f : Flaw) → o ≡ Err f → OthersJudged text defs t o → Grounded text defs pattern t (Err f)
     by_others o f w q' =
         let q : OthersJudged text defs t (Err f) = rw w at q' in

@@ -20,32 +20,32 @@ use Rattle.judging.specs.Table.{arity_in, RowsOf}
 abbrev pub flaw : Ground → ℕ → Flaw
 flaw g k = record { reason = g; place = k }
 
--- nothing is wrong up to an index, or as many extractors are fine; or what is wrong
+-- nothing is wrong, up to an index or in as many extractors; or what is wrong
 abbrev pub Judged : Type 0
 Judged = Result ℕ Flaw
 
-abbrev pub given : Judged → Option Refusal
+abbrev pub given : {A : Type 0} → Result A Flaw → Option Refusal
 given (Ok n) = none
 given (Err e) = some (refusal (number e.reason) e.place)
 
 -- the number of what is wrong with one node, or 0
-abbrev pub mark_of : Maybe Ground → ℕ
-mark_of None = 0
-mark_of (Some g) = number g
+abbrev pub mark_of : Result (Unit {0}) Ground → ℕ
+mark_of (Ok u) = 0
+mark_of (Err g) = number g
 
 -- a place below m
-unfoldable pub Low : ℕ → Judged → Type 0
+unfoldable pub Low : {A : Type 0} → ℕ → Result A Flaw → Type 0
 Low m (Ok n) = Unit {0}
 Low m (Err e) = e.place < m
 
 -- r gives the ground g, its place below m
-pub record Answers (g : Option Refusal) (m : ℕ) (r : Judged) : Type 0 where
+pub record Answers {A : Type 0} (g : Option Refusal) (m : ℕ) (r : Result A Flaw) : Type 0 where
   pub gives : given r ≡ g
   pub low : Low m r
 
 -- the answer by the index, if any, of what is wrong in a list, the first record of which has the place d
-abbrev pub judged_at : Maybe ℕ → Ground → ℕ → Judged
-judged_at None g d = Ok 0
+abbrev pub judged_at : Maybe ℕ → Ground → ℕ → Result (Unit {0}) Flaw
+judged_at None g d = Ok tt
 judged_at (Some a) g d = Err (flaw g (d + a))
 
 -- an answer whose place goes on after d records, with n for a fine one
@@ -115,7 +115,7 @@ abbrev pub site_at : List ℕ → ℕ → Extractors → Site
 site_at defs i E = record { place = i; children = children_at defs i; earlier = E }
 
 -- one of its stages
-pub record StageJudged (S : Extractors → Site → Stage) (text : List ℕ) (t : List Entry) (earlier : ℕ) (defs : List ℕ) (i : ℕ) (r : Judged) : Type 0 where
+pub record StageJudged (S : Extractors → Site → Stage) (text : List ℕ) (t : List Entry) (earlier : ℕ) (defs : List ℕ) (i : ℕ) (r : Result (Unit {0}) Flaw) : Type 0 where
   pub gives : (x : Known text t earlier) → given r ≡ found (S (known_all x) (site_at defs i x.first))
   pub low : Low (slots defs) r
 
@@ -131,5 +131,5 @@ pub record ExtractorJudged (text : List ℕ) (t : List Entry) (earlier : ℕ) (d
 abbrev pub turns : List ℕ → Extractors → ℕ → Extractors → Trees → Option Refusal
 turns text D i E ts = verdict (in_turn (stages_of text D) (sites text i E ts))
 
-abbrev pub ListJudged : List ℕ → List ℕ → Judged → Type 0
+abbrev pub ListJudged : List ℕ → List ℕ → Result (Unit {0}) Flaw → Type 0
 ListJudged text defs r = Answers (turns text (extractors text (trees_of (recs defs))) 0 [] (trees_of (recs defs))) (slots defs) r

@@ -1,3 +1,4 @@
+pub mod Props
 pub mod Table
 pub mod Judging
 pub mod Whole

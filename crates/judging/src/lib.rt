@@ -3,7 +3,7 @@
 
 pub mod calls;
 pub mod extractors;
-pub mod names;
+pub mod lent;
 pub mod table;
 pub mod whole;
 

@@ -1,11 +1,12 @@
 // The table of extractors: the range of the name, the number of parameters and the place of each.
-ghost use Rattle.std.specs.Prelude.{◌≡◌, ◌≤◌, length, take};
+ghost use Rattle.std.specs.Prelude.{◌≡◌, ◌<◌, ◌≤◌, length, take, IfSome};
 ghost use Rattle.judging.specs.Table.{looked, entry_of, RowRoom};
-ghost use Rattle.judging.specs.Whole.{DefinitionsShaped, Tabled};
+ghost use Rattle.judging.specs.Whole.{Tabled};
 
 use crate::Flaw;
-use crate::names::same_name;
+use crate::lent::Definitions;
 use forms::scans::skip;
+use names::compare::same_name;
 use records::{Ground, rec_at, slots};
 use trees::Kind;
 
@@ -49,7 +50,8 @@ impl<'a> Extractors<'a> {
     // The number of the first that has the name w.
     #[tactic(auto, unfolding(crate::specs::Table::looked))]
     pub fn look_up(&self, w: u64) -> Option<usize>
-        ensures { result ≡ looked self.now.text.now self.now.rows.now w }
+        ensures first { result ≡ looked self.now.text.now self.now.rows.now w }
+        ensures inside { IfSome result (λ x. x < length self.now.rows.now) }
     {
         self.rows
             .iter()
@@ -70,19 +72,17 @@ fn entry_at(defs: &[u8], i: usize) -> Entry
 }
 
 // Fills the table with the extractors of a definition list: their number, or 33 at the 257th.
-pub fn make_table(defs: &[u8], table: &mut [Entry]) -> Result<usize, Flaw>
-    requires definitions { DefinitionsShaped defs.now }
-    requires room { MOST ≤ length table.old }
-    ensures { Tabled defs.now table.new result }
+pub fn make_table(defs: &Definitions, table: &mut [Entry; MOST]) -> Result<usize, Flaw>
+    ensures { Tabled defs.now.records.now table.new result }
 {
-    let end = slots(defs);
+    let end = slots(defs.records);
     let mut n = 0;
     let mut i = 0;
-    // Kept: the index goes on by whole trees; an iterator of trees would hold this same loop.
+    // Kept: where a tree ends is known only once skip has read it, so that no range says the next index.
     while i < end {
-        let r = rec_at(defs, i);
+        let r = rec_at(defs.records, i);
         if r.kind != Kind::Extractor as u8 {
-            i = skip(defs, i, 1);
+            i = skip(defs.records, i, 1);
             continue;
         }
         if n == MOST {
@@ -91,9 +91,9 @@ pub fn make_table(defs: &[u8], table: &mut [Entry]) -> Result<usize, Flaw>
                 place: i,
             });
         }
-        table[n] = entry_at(defs, i);
+        table[n] = entry_at(defs.records, i);
         n += 1;
-        i = skip(defs, i, 1);
+        i = skip(defs.records, i, 1);
     }
     Ok(n)
 }

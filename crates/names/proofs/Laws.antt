@@ -1,14 +1,19 @@
 -- Searching names one after another and by halves: a law for each way through the code. Assumes nothing.
-use Rattle.std.proofs.Common.{◌≡◌, ℕ, zero, suc, ◌+◌, ◌-◌, ◌/◌, ◌<◌, ◌≤◌, Bool, true, false, eqb, List, length, get_or, Some, None, sym, refl, ◌∙◌, arith, le-ltb, lt-ltb, eq-eqb, ne_eqb, eqb-true}
+use Rattle.std.proofs.Common.{◌≡◌, ℕ, zero, suc, ◌+◌, ◌-◌, ◌/◌, ◌<◌, ◌≤◌, Bool, true, false, eqb, List, length, get_or, Option, Some, None, sym, refl, ap, ◌∙◌, arith, le-ltb, lt-ltb, eq-eqb, ne_eqb, eqb-true}
 use mathlib.Core.Bool.{false≢true}
 use borrow.Author.Tests.{eqb-false}
+use Rattle.std.specs.Prelude.{IsTrue}
+use Rattle.std.specs.Bool.{MatchBool}
+use Rattle.std.specs.List.{range_with_len, AllWithin}
+use Rattle.std.proofs.lemmas.List.FromFn.{length-range_with_len, get_or-range_with_len}
 use Rattle.trees.specs.Choice.{pick}
 use Rattle.trees.specs.Names.{spelled}
 use Rattle.words.specs.Bytes.{same_bytes}
+use Rattle.records.specs.Slots.{rec_at}
 use Rattle.words.proofs.SameLaws.{same_eq}
 use Rattle.names.specs.declared.row.Names.{Names}
 use Rattle.names.specs.Compare.{before}
-use Rattle.names.specs.Order.{range_at, name_at, entry, ordered, halves, place, led, marked, Leads, Checked, NoneBefore, First}
+use Rattle.names.specs.Order.{SameNames, range_at, name_at, entry, ordered, halves, place, led, marked, Leads, Checked, NoneBefore, First}
 
 pub entry_in : (places : List ℕ) (n i k : ℕ) → k ≡ get_or places i 0 → k < n → k ≡ entry places n i
 unfolding entry
@@ -39,6 +44,26 @@ module _ (s : Names) (w : ℕ) where
 
   pub seek_here : (i x : ℕ) → same_bytes (spelled s.text.now w) (spelled s.text.now x) ≡ true → x ≡ range_at s i → i < s.n → NoneBefore s (spelled s.text.now w) i → First s (spelled s.text.now w) (Some i)
   seek_here i x e p h v = (h, rw (← p) e, v)
+
+-- ---- the same names, lent twice
+
+read : List ℕ → List ℕ → ℕ → ℕ → List ℕ
+read text src from j = spelled text (rec_at src (from + j)).word1
+
+module _ (s t : Names) (e : SameNames s t) where
+  same-name : (j : ℕ) → name_at s j ≡ name_at t j
+  unfolding range_at read
+  same-name j = ap (λ (x : List ℕ). read x s.src.now s.from j) e.text ∙ ap (λ (x : List ℕ). read t.text.now x s.from j) e.list ∙ ap (λ (x : ℕ). read t.text.now t.src.now x j) e.from
+
+  none_same : (name : List ℕ) (k : ℕ) → NoneBefore s name k → NoneBefore t name k
+  none_same name k v j h = ap (same_bytes name) (sym (same-name j)) ∙ v j h
+
+  first_named : (name found : List ℕ) (r : Option ℕ) → name ≡ found → First s name r → First t found r
+  first_named name found None p v = λ j h. none_same found s.n (rw p at v) j (omega (arith, e.many))
+  first_named name found (Some k) p v = (omega (arith, v.0, e.many), ap (same_bytes found) (sym (same-name k)) ∙ (rw p at v.1), none_same found k (rw p at v.2))
+
+  pub first_same : (w : ℕ) (r : Option ℕ) → First s (spelled s.text.now w) r → First t (spelled t.text.now w) r
+  first_same w r v = first_named (spelled s.text.now w) (spelled t.text.now w) r (ap (λ (x : List ℕ). spelled x w) e.text) v
 
 -- ---- halving
 
@@ -94,12 +119,13 @@ module _ (s : Names) (places marks : List ℕ) where
   pub leads_same : (j k w x : ℕ) → w ≡ range_at s j → k ≡ led s places (spelled s.text.now w) → k ≤ j → x ≡ range_at s k → same_bytes (spelled s.text.now w) (spelled s.text.now x) ≡ true → Leads s places marks j
   leads_same j k w x e p h q z u = (rw (← e, ← p) h, rw (← e, ← p, ← q) z)
 
-  pub check_turn : (j : ℕ) → Leads s places marks j → Checked s places marks j → Checked s places marks (j + 1)
-  check_turn j v w = record { each = λ i h. go i h (eqb i j) refl }
+  -- by what `all` says of the numbers of the names
+  pub checked_all : (n : ℕ) (r : Bool) (Q : Type 0) → MatchBool r (AllWithin (λ j. Leads s places marks j) (range_with_len 0 n) 0 (length (range_with_len 0 n))) Q → IsTrue r → Checked s places marks n
+  checked_all n true Q v h = record { each = λ j l. rw (at j l) at (v j 0 (omega arith) (rw (length-range_with_len 0 n) l)) }
     where
-      go : (i : ℕ) → i < j + 1 → (c : Bool) → eqb i j ≡ c → Leads s places marks i
-      go i h true p = rw (eqb-true i j p) v
-      go i h false p = w.each i (omega (arith, eqb-false i j p))
+      at : (j : ℕ) → j < n → get_or (range_with_len 0 n) j 0 ≡ j
+      at j l = get_or-range_with_len 0 n j 0 l ∙ omega arith
+  checked_all n false Q v h = absurd (false≢true h)
 
   lead_to : (j : ℕ) (name : List ℕ) → name ≡ name_at s j → Leads s places marks j → marked marks (length name) ≡ true
       → (led s places name ≤ j) × (same_bytes name (name_at s (led s places name)) ≡ true)

@@ -11,6 +11,13 @@ use Rattle.names.specs.Compare.{before}
 unfoldable pub range_at : Names → ℕ → ℕ
 range_at s j = (rec_at s.src.now (s.from + j)).word1
 
+-- the same names, by what is lent: text and list, and which of its records
+pub record SameNames (s t : Names) : Type 0 where
+  pub text : s.text.now ≡ t.text.now
+  pub list : s.src.now ≡ t.src.now
+  pub from : s.from ≡ t.from
+  pub many : s.n ≡ t.n
+
 -- its bytes
 abbrev pub name_at : Names → ℕ → List ℕ
 name_at s j = spelled s.text.now (range_at s j)

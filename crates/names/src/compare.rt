@@ -4,7 +4,6 @@ ghost use Rattle.trees.specs.Names.{spelled};
 ghost use Rattle.words.specs.Bytes.{same_bytes};
 ghost use Rattle.names.specs.Compare.{before};
 
-use std::cmp::Ordering;
 use tokens::names::spelling;
 
 // Whether a comes before b: the shorter, or of one length the lower by bytes.
@@ -12,11 +11,7 @@ use tokens::names::spelling;
 fn before(a: &[u8], b: &[u8]) -> bool
     ensures { result ≡ before a.now b.now }
 {
-    match a.len().cmp(&b.len()) {
-        Ordering::Less => true,
-        Ordering::Equal => a.cmp(&b).is_lt(),
-        Ordering::Greater => false,
-    }
+    a.len().cmp(&b.len()).then_with(|| a.cmp(&b)).is_lt()
 }
 
 // Whether two names are the same.

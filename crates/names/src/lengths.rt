@@ -9,11 +9,7 @@ use trees::{Kind, Rec};
 
 // The record at slot j, if there is one.
 fn rec_if(src: &[u8], j: usize) -> Option<Rec> {
-    if j < slots(src) {
-        Some(rec_at(src, j))
-    } else {
-        None
-    }
+    (j < slots(src)).then(|| rec_at(src, j))
 }
 
 // Whether a name is sought for the record at slot k: for a Var, or a Bind over a Wildcard. It stands in the next record.

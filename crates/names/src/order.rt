@@ -3,7 +3,7 @@
 ghost use Rattle.std.specs.Prelude.{◌≡◌, ◌+◌, ◌<◌, ◌≤◌, length, IfSome};
 ghost use Rattle.std.specs.Option.{ForSome};
 ghost use Rattle.trees.specs.Names.{spelled};
-ghost use Rattle.names.specs.Order.{First, Checked};
+ghost use Rattle.names.specs.Order.{First, SameNames, Checked};
 
 use crate::compare::{comes_before, same_name};
 use crate::places::{Places, is_marked};
@@ -21,7 +21,7 @@ pub struct Order<'a> {
 impl<'a> Order<'a> {
     // The number of the first name that is the one sought: by the order, where it has names of that length.
     #[tactic(auto, using(crate::proofs::Laws::sought_here, crate::proofs::Laws::sought_none))]
-    pub fn sought(&self, w: u64) -> Option<usize>
+    fn sought(&self, w: u64) -> Option<usize>
         ensures { First self.now.places.names (spelled self.now.places.names.text.now w) result }
     {
         let names = &self.places.names;
@@ -38,10 +38,12 @@ impl<'a> Order<'a> {
 }
 
 // The number of the first name that is the one sought: by the order, if there is one, else one after another.
+#[tactic(auto, using(crate::proofs::Laws::first_same))]
 pub fn find(names: &Names, order: Option<&Order>, w: u64) -> Option<usize>
-    requires { ForSome order (λ o. o.now.places.names ≡ names.now) }
+    requires { ForSome order (λ o. SameNames o.now.places.names names.now) }
     ensures { First names.now (spelled names.now.text.now w) result }
 {
+    // Kept: with map_or_else(|| names.seek(w), |order| order.sought(w)) the proof learns nothing of what the first closure returns.
     match order {
         Some(order) => order.sought(w),
         None => names.seek(w),
@@ -49,7 +51,7 @@ pub fn find(names: &Names, order: Option<&Order>, w: u64) -> Option<usize>
 }
 
 // Puts k at place i of m, and moves the later ones on.
-// Kept: the places are lent and there is no heap, so the number of those that are filled stands beside them.
+// Kept: Vec::insert would be this, but there is no heap: the places are a lent slice, and m says how many of them are filled.
 fn insert(places: &mut [u32], m: usize, i: usize, k: u32)
     requires in_order { i ≤ m }
     requires room { m < length places.old }

@@ -18,7 +18,7 @@ pub struct Places<'a> {
 
 // Whether names of the length of that at the range w are in the order.
 #[tactic(auto, using(crate::proofs::Laws::marked_all, crate::proofs::Laws::marked_at))]
-pub fn is_marked(text: &[u8], marks: &[u8], w: u64) -> bool
+pub(crate) fn is_marked(text: &[u8], marks: &[u8], w: u64) -> bool
     ensures { result ≡ marked marks.now (length (spelled text.now w)) }
 {
     let len = spelling(text, w).len();
@@ -28,7 +28,7 @@ pub fn is_marked(text: &[u8], marks: &[u8], w: u64) -> bool
 impl<'a> Places<'a> {
     // The number at place i.
     #[tactic(auto, using(crate::proofs::Laws::entry_in, crate::proofs::Laws::entry_out))]
-    pub fn entry(&self, i: usize) -> usize
+    pub(crate) fn entry(&self, i: usize) -> usize
         requires { i < length self.now.numbers.now }
         ensures number { result ≡ entry self.now.numbers.now self.now.names.n i }
         ensures of_a_name { result < self.now.names.n }
@@ -49,7 +49,7 @@ impl<'a> Places<'a> {
     // The place of a name.
     // Kept: std's partition_point says where it ends only of an order that is known, and what is found here must depend on the name alone.
     #[tactic(auto, using(crate::proofs::Laws::halving_start))]
-    pub fn place(&self, w: u64) -> usize
+    pub(crate) fn place(&self, w: u64) -> usize
         ensures by_halves { result ≡ place self.now.names self.now.numbers.now (spelled self.now.names.text.now w) }
         ensures in_order { result < length self.now.numbers.now }
     {
@@ -67,7 +67,7 @@ impl<'a> Places<'a> {
 
     // The number to which a name leads.
     #[tactic(auto, unfolding(crate::specs::Order::led))]
-    pub fn led(&self, w: u64) -> usize
+    pub(crate) fn led(&self, w: u64) -> usize
         ensures by_place { result ≡ led self.now.names self.now.numbers.now (spelled self.now.names.text.now w) }
         ensures of_a_name { result < self.now.names.n }
     {
@@ -93,15 +93,9 @@ impl<'a> Places<'a> {
     }
 
     // Whether each name of a marked length leads to the first of its kind.
-    #[tactic(auto, using(crate::proofs::Laws::check_turn))]
-    pub fn is_checked(&self, marks: &[u8]) -> bool
+    pub(crate) fn is_checked(&self, marks: &[u8]) -> bool
         ensures { IsTrue result → Checked self.now.names self.now.numbers.now marks.now self.now.names.n }
     {
-        for j in 0..self.names.n {
-            if !self.leads(marks, j) {
-                return false;
-            }
-        }
-        true
+        (0..self.names.n).all(|j| self.leads(marks, j))
     }
 }

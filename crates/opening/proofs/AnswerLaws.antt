@@ -54,10 +54,6 @@ space-slots l s e = rw e (space-is l).0
 pub space-most : (l : List ℕ) (s : ℕ) → s ≡ space_of l → s ≤ 65536
 space-most l s e = rw e (space-is l).1
 
-space-both : (s o : List ℕ) (a b : ℕ) → a ≡ space_of s → b ≡ space_of o → counts a b ≡ space_in (outputs s o)
-unfolding space_in
-space-both s o a b e f = rw (e, f)
-
 module _ (s o : List ℕ) (space : Counts) (is : space ≡ space_in (outputs s o)) where
   store_is : space.store ≡ space_of s
   unfolding space_in
@@ -135,11 +131,10 @@ grounds-fine text defs p t n u rs i j g d q =
       fine = f;
     })
 
-pub work_asked : (text : List ℕ) (t : List Entry) (defs p ends s o : List ℕ) (a b : ℕ) → a ≡ space_of s → b ≡ space_of o → Accepting text t defs p
-    → slots defs ≤ length ends → slots p ≤ length ends → WorkAsked text t defs p ends (outputs s o) (counts a b)
+pub work_asked : (text : List ℕ) (t : List Entry) (defs p ends : List ℕ) (b : Outputs) (space : Counts) → space ≡ space_in b → Accepting text t defs p
+    → slots defs ≤ length ends → slots p ≤ length ends → WorkAsked text t defs p ends b space
 unfolding WorkAsked
-work_asked text t defs p ends s o a b f h g x y =
-    record { accepting = g; ends-long = x; ends_enough = y; space-is = space-both s o a b f h }
+work_asked text t defs p ends b space e g x y = record { accepting = g; ends-long = x; ends_enough = y; space-is = e }
 
 -- ---- where no ground holds
 

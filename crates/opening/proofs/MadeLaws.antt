@@ -3,8 +3,9 @@ use mathlib.Core.Path.{◌≡◌, refl, sym, ap, ◌∙◌}
 use mathlib.Core.Bool.{Bool, true, false}
 use mathlib.Core.Option.{Option, none, some}
 use mathlib.Core.List.{List, [], ◌∷◌}
-use Prim.Native.Nat.{ℕ, suc, ◌+◌, ◌-◌, ◌<◌, ◌≤◌}
+use Prim.Native.Nat.{ℕ, zero, suc, ◌+◌, ◌-◌, ◌<◌, ◌≤◌}
 use native.Mathlib.Nat.{zero-add}
+use native.Mathlib.Numerals.{add-one}
 use native.Mathlib.Decide.{dec_lt}
 use native.Mathlib.Omega.{arith}
 use lib.ListN.{get_or, drop}
@@ -16,6 +17,8 @@ use Rattle.trees.specs.Tree.{Trees, count, firsts, others, record_of, trees_of}
 use Rattle.trees.specs.Names.{spelled}
 use Rattle.words.specs.Bytes.{same_bytes}
 use Rattle.records.specs.Slots.{slots, rec_at, recs}
+use Rattle.names.specs.declared.row.Names.{Names}
+use Rattle.names.specs.Order.{range_at, NoneBefore, First}
 use Rattle.expansion.specs.Nodes.{macro_arg, is_var, is_bind, is_wildcard}
 use Rattle.expansion.specs.Templates.{next, position}
 use Rattle.expansion.specs.Flat.{span, after, end_of, stands_at, Placed, opened_at, LeafNext}
@@ -118,6 +121,20 @@ module _ (text src : List ℕ) (pa pc w j : ℕ) (g : Seeking text src pa pc w j
           leaves = leaf.1;
           leads = g.leads ∙ ap (add_to j) (turn_next q) ∙ add-next j (sought_from text src pa pc w (j + 1));
         }
+
+-- of a row of the parameters' names
+module _ (s : Names) (w : ℕ) (p : Params s.src.now s.from s.n) where
+  seeking_to : (j : ℕ) → j ≤ s.n → NoneBefore s (spelled s.text.now w) j → Seeking s.text.now s.src.now s.from s.n w j
+  unfolding range_at
+  seeking_to zero h v = seeking_start s.text.now s.src.now s.from s.n w p
+  seeking_to (suc j) h v =
+      let g = seeking_to j (omega arith) (λ i l. v i (omega arith)) in
+      rw (← add-one j) (seeking_next s.text.now s.src.now s.from s.n w j g (rec_at s.src.now (s.from + j)) refl false (sym (v j (omega arith))) (omega arith) refl)
+
+  pub sought_named : (r : Maybe ℕ) → First s (spelled s.text.now w) r → Sought s.n (position s.text.now (spelled s.text.now w) (params_at s.src.now s.from s.n)) r
+  unfolding range_at
+  sought_named None v = seeking_end s.text.now s.src.now s.from s.n w s.n (seeking_to s.n (omega arith) v) (omega arith)
+  sought_named (Some k) (h, e, v) = seeking_here s.text.now s.src.now s.from s.n w k (seeking_to k (omega arith) v) (rec_at s.src.now (s.from + k)) refl true (sym e) h refl
 
 -- ---- a record that stands for a parameter
 

@@ -4,4 +4,5 @@ pub mod Made
 pub mod Walk
 pub mod Store
 pub mod Answers
+pub mod Lent
 pub mod Work

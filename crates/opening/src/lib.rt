@@ -2,6 +2,7 @@
 #![tactic(auto)]
 
 pub mod ends;
+pub mod lent;
 pub mod made;
 pub mod store;
 pub mod walk;

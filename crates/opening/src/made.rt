@@ -1,5 +1,5 @@
 // A record of the source as it is written, and what it calls.
-ghost use Rattle.std.specs.Prelude.{◌≡◌, ◌+◌, ◌≤◌, drop};
+ghost use Rattle.std.specs.Prelude.{◌≡◌, ◌+◌, ◌<◌, length, drop, IfSome};
 ghost use Rattle.trees.specs.Names.{spelled};
 ghost use Rattle.records.specs.Slots.{rec_at, recs};
 ghost use Rattle.expansion.specs.Templates.{position};
@@ -7,8 +7,8 @@ ghost use Rattle.expansion.specs.Flat.{stands_at};
 ghost use Rattle.opening.specs.Made.{params_at, Params, Located, Makeable, Sought, MadeAt, call_number};
 
 use crate::ends::Forest;
-use judging::names::same_name;
 use judging::table::Extractors;
+use names::row::Names;
 use records::rec_at;
 use trees::{Kind, Rec};
 
@@ -31,13 +31,13 @@ fn parameter(text: &[u8], src: &[u8], params: Parameters, w: u64) -> Option<usiz
     requires { Params src.now params.first params.count }
     ensures { Sought params.count (position text.now (spelled text.now w) (params_at src.now params.first params.count)) result }
 {
-    for j in 0..params.count {
-        let p = rec_at(src, params.first + j);
-        if same_name(text, w, p.word1) {
-            return Some(j);
-        }
-    }
-    None
+    let names = Names {
+        text,
+        src,
+        from: params.first,
+        n: params.count,
+    };
+    names.seek(w)
 }
 
 // The parameter that the record k stands for.
@@ -90,7 +90,8 @@ pub fn made_at(text: &[u8], source: &Forest, params: Parameters, k: usize) -> Ma
 // The number of the extractor that the record k calls.
 pub fn call_at(known: &Extractors, src: &[u8], k: usize) -> Option<usize>
     requires { Located src.now k }
-    ensures { result ≡ call_number known.now.text.now known.now.rows.now src.now k }
+    ensures number { result ≡ call_number known.now.text.now known.now.rows.now src.now k }
+    ensures inside { IfSome result (λ x. x < length known.now.rows.now) }
 {
     let r = rec_at(src, k);
     if r.kind != Kind::PatternTerm as u8 {

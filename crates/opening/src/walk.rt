@@ -22,6 +22,7 @@ pub struct Opening<'a> {
     pub space: usize,
 }
 
+// Kept: the store and the output apart, not as one `&mut Outputs`: with that a call that writes much took a tenth more time.
 impl Opening<'_> {
     // Appends the record r after n of them: how many there are then, if there is space for it.
     fn append(&self, store: &mut [u8], out: &mut [u8], n: usize, r: Rec) -> Option<usize>
@@ -71,7 +72,7 @@ impl Opening<'_> {
         let mut todo = 1;
         let mut k = i;
         let mut y = m;
-        // Kept: each record changes how many trees are left, so that no range or chain of iterators says when to stop.
+        // Kept: a call and what stands for a parameter are passed as whole trees, so that no range says the next index.
         while todo > 0 {
             if let Some(x) = call_at(&self.known, self.source.records, k) {
                 y = self.scan(store, out, k, x, y)?;

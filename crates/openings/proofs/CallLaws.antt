@@ -4,7 +4,9 @@ use native.Mathlib.Omega.{arith}
 use mathlib.Core.Path.{◌≡◌, refl, sym, ap, ◌∙◌}
 use mathlib.Core.List.{List, ◌++◌}
 use mathlib.Core.Bool.{Bool, true, false}
+use lib.Dec.{eqb}
 use lib.ListN.{length, take, replicate}
+use borrow.Author.Tests.{eqb-true, eqb-false}
 use mir.Syntax.{w32}
 use mir.Val.{Fits as FitsIn}
 use Rattle.trees.specs.declared.Rec.{Rec}
@@ -23,12 +25,14 @@ use Rattle.judging.proofs.ShapeLaws.{definitions_shaped, pattern_shaped}
 use Rattle.opening.specs.Answers.{Answer, numbered, Outputs, outputs, number_of, Countable, answer_of, space_of, space_in, begun}
 use Rattle.opening.specs.Work.{Begin, Answers}
 use Rattle.std.specs.Prelude.{Ok, Err}
+use Rattle.trees.specs.Choice.{pick}
+use Rattle.records.specs.declared.Ground.{Ground}
 use Rattle.records.specs.Grounds as grounds
 use Rattle.judging.specs.declared.Flaw.{Flaw}
 use Rattle.opening.proofs.AnswerLaws.{space-slots}
 use Rattle.templating.specs.Calls.{sizes, lent}
-use Rattle.templating.proofs.CallLaws.{short, lent-size, lent-first, lent-second, lent_right}
-use Rattle.openings.specs.Calls.{stopped, number, zeros, filled, Left, kept, kept_by, Finished}
+use Rattle.templating.proofs.CallLaws.{short, positive, lent-size, lent-first, lent-second, lent_right}
+use Rattle.openings.specs.Calls.{stopped, check, opening_of, number, zeros, filled, Left, kept, kept_by, Finished}
 
 -- ---- a refusal, and an acceptance
 
@@ -61,6 +65,10 @@ small f c = c
 
 pub place-fits : (a : Answer) (f : Flaw) → a ≡ Err f → Countable a → FitsIn w32 f.place
 place-fits a f e c = omega (arith, small f (rw e at c))
+
+-- what was lent is read by the names that it was lent under
+pub lent_back : (c : Outcome) (b : Outputs) (r : ℕ) (s o s' o' : List ℕ) → Left c b (outputs s o) r → s ≡ s' → o ≡ o' → Left c b (outputs s' o') r
+lent_back c b r s o s' o' h e f = rw (← e, ← f) h
 
 -- ---- the work
 
@@ -103,10 +111,80 @@ module _ (n k : ℕ) (c : Outcome) (b b' : Outputs) (r : ℕ) (e : n ≡ k) wher
   pub right : (x y z w : Bool) → n ≡ 0 → z ≡ x → z ≡ true → w ≡ y → w ≡ true → Left c b b' r → Left (lent stopped k x y c) b b' r
   right x y z w h f g i j l = rw (lent_right stopped n k c e x y z w h f g i j) l
 
--- by the lengths of the text and of the lists
-module _ (t d q n : ℕ) (is : n ≡ sizes t d q) (none : n ≡ 0) where
-  pub first_shaped : (defs : List ℕ) (x : Bool) → d ≡ length defs → x ≡ is_many t definition (recs defs) → x ≡ true → DefinitionsShaped defs
-  first_shaped defs x e i a = definitions_shaped t defs (sym i ∙ a) (omega (arith, (short t d q (sym none ∙ is)).0))
+module _ (text defs p : List ℕ) where
+  abbrev size : ℕ
+  size = sizes (length text) (length defs) (length p)
 
-  pub second_shaped : (p : List ℕ) (y : Bool) → q ≡ length p → y ≡ is_one t pattern (recs p) → y ≡ true → PatternShaped p
-  second_shaped p y e i a = pattern_shaped t p (sym i ∙ a) (omega (arith, (short t d q (sym none ∙ is)).1))
+  abbrev many : Bool
+  many = is_many (length text) definition (recs defs)
+
+  abbrev one : Bool
+  one = is_one (length text) pattern (recs p)
+
+  pub first_short : 0 ≡ size → slots defs ≤ 65536
+  first_short e = (short (length text) (length defs) (length p) e).0
+
+  pub second_short : 0 ≡ size → slots p ≤ 65536
+  second_short e = (short (length text) (length defs) (length p) e).1
+
+  pub check_size : (g : Ground) → grounds.number g ≡ size → grounds.number g ≡ check text defs p
+  unfolding check
+  check_size g e = sym (lent-size (λ n. n) (grounds.number g) size 0 e many one (positive g))
+
+  pub check_first : (z : Bool) → 0 ≡ size → z ≡ many → z ≡ false → 3 ≡ check text defs p
+  unfolding check
+  check_first z e f g = sym (lent-first (λ n. n) 0 size 0 e many one z refl f g)
+
+  pub check_second : (z w : Bool) → 0 ≡ size → z ≡ many → z ≡ true → w ≡ one → w ≡ false → 3 ≡ check text defs p
+  unfolding check
+  check_second z w e f g i j = sym (lent-second (λ n. n) 0 size 0 e many one z w refl f g i j)
+
+  pub check_right : (z w : Bool) → 0 ≡ size → z ≡ many → z ≡ true → w ≡ one → w ≡ true → 0 ≡ check text defs p
+  unfolding check
+  check_right z w e f g i j = sym (lent_right (λ n. n) 0 size 0 e many one z w refl f g i j)
+
+  -- what the number of the check says
+  stopped-by : (n k : ℕ) (x y : Bool) (c : Outcome) → k ≡ lent (λ m. m) n x y 0 → (k ≡ 0 → ⊥) → lent stopped n x y c ≡ stopped k
+  unfolding lent
+  stopped-by n k x y c = go (eqb n 0) x y
+    where
+      go : (z x y : Bool) → k ≡ pick z (pick x (pick y 0 3) 3) n → (k ≡ 0 → ⊥) → pick z (pick x (pick y c (stopped 3)) (stopped 3)) (stopped n) ≡ stopped k
+      go false x y e h = rw e
+      go true false y e h = rw e
+      go true true false e h = rw e
+      go true true true e h = absurd (h e)
+
+  record Right (n : ℕ) (x y : Bool) (c : Outcome) : Type 0 where
+    sized : n ≡ 0
+    first : x ≡ true
+    second : y ≡ true
+    comes : lent stopped n x y c ≡ c
+
+  right-by : (n : ℕ) (x y : Bool) (c : Outcome) → 0 ≡ lent (λ m. m) n x y 0 → Right n x y c
+  unfolding lent
+  right-by n x y c = go (eqb n 0) refl x y
+    where
+      go : (z : Bool) → eqb n 0 ≡ z → (x y : Bool) → 0 ≡ pick z (pick x (pick y 0 3) 3) n → Right n x y c
+      go false q x y e = absurd (eqb-false n 0 q (sym e))
+      go true q false y e = absurd (omega arith)
+      go true q true false e = absurd (omega arith)
+      go true q true true e = record { sized = eqb-true n 0 q; first = refl; second = refl; comes = rw q }
+
+  pub refused_by : (g : Ground) (b b' : Outputs) (r : ℕ) → grounds.number g ≡ check text defs p → Left (refuse (refusal (grounds.number g) 0)) b b' r → Left (opening_of text defs p b) b b' r
+  unfolding check opening_of
+  refused_by g b b' r e l = rw (stopped-by size (grounds.number g) many one (opening text (trees_of (recs defs)) (tree_of (recs p)) (space_in b)) e (positive g)) l
+
+  module _ (e : 0 ≡ check text defs p) where
+    found : (c : Outcome) → Right size many one c
+    unfolding check
+    found c = right-by size many one c e
+
+    pub first_shaped : DefinitionsShaped defs
+    first_shaped = definitions_shaped (length text) defs (found (stopped 0)).first (short (length text) (length defs) (length p) (sym (found (stopped 0)).sized)).0
+
+    pub second_shaped : PatternShaped p
+    second_shaped = pattern_shaped (length text) p (found (stopped 0)).second (short (length text) (length defs) (length p) (sym (found (stopped 0)).sized)).1
+
+    pub opened_by : (b b' : Outputs) (r : ℕ) → Left (opening text (trees_of (recs defs)) (tree_of (recs p)) (space_in b)) b b' r → Left (opening_of text defs p b) b b' r
+    unfolding opening_of
+    opened_by b b' r l = rw (found (opening text (trees_of (recs defs)) (tree_of (recs p)) (space_in b))).comes l

@@ -12,6 +12,14 @@ use Rattle.templating.specs.Calls.{sizes, lent}
 abbrev pub stopped : ℕ → Outcome
 stopped code = refuse (refusal code 0)
 
+-- the number of the check that refuses, 7, 1 or 3; 0 where none does
+unfoldable pub check : List ℕ → List ℕ → List ℕ → ℕ
+check text defs patt =
+    lent (λ n. n) (sizes (length text) (length defs) (length patt))
+    (is_many (length text) definition (recs defs))
+    (is_one (length text) pattern (recs patt))
+    0
+
 -- definitions and one pattern, with the outputs b
 unfoldable pub opening_of : List ℕ → List ℕ → List ℕ → Outputs → Outcome
 opening_of text defs patt b =

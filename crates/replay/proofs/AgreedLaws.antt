@@ -1,6 +1,6 @@
 -- Comparing what a call returned and left with stored answers: r is the number, l the output, k the store. The bytes lent to be written were
 -- overwritten before the call, and stayed as many: n and m before; n', or the lengths of s and o, then. Assumes nothing.
-use Rattle.std.proofs.Common.{◌≡◌, ℕ, ◌≤◌, Bool, true, false, not, List, length, take, replicate, ap₂, length-take-le, eq-eqb, ne_eqb}
+use Rattle.std.proofs.Common.{◌≡◌, ℕ, ◌≤◌, Bool, true, false, not, List, Bor, length, take, replicate, ap₂, length-take-le, eq-eqb, ne_eqb}
 use lib.ListN.{length-replicate}
 use borrow.Author.Tests.{not-true, not-false}
 use Rattle.records.specs.Slots.{slots}
@@ -13,30 +13,29 @@ use Rattle.templating.specs.Calls.{Ended, making, substituting}
 use Rattle.grounds.specs.Opening.{Outcome, accept, refuse}
 use Rattle.opening.specs.Answers.{Outputs, outputs, space_of, space_in}
 use Rattle.openings.specs.Calls.{Left, opening_of, zeros, filled}
-use Rattle.replay.specs.declared.output_cases.Entry.{Entry}
-use Rattle.replay.specs.declared.output_cases.Entry.TheVariants.{Read, Text, Make, Fill}
-use Rattle.replay.specs.Said.{says, says_both, of_outputs, said, opened}
+use Rattle.replay.specs.declared.output_cases.Lent.{Lent}
+use Rattle.replay.specs.declared.output_cases.Lent.TheVariants as lends
+use Rattle.replay.specs.Said.{says, says_both, of_outputs, said, said_of, opened}
 use Rattle.replay.specs.Agreed.{held, agreed, agreed_both}
 
 -- ---- one output
 
-module _ (entry : Entry) (text first second : List ℕ) (end : ℕ) where
-  module _ (o l : List ℕ) (r : ℕ) where
-    pub said_read : entry ≡ Read → Answered (reading (input first text end) (slots o)) (length o) l r → says r l ≡ said entry text first second end (length o)
-    unfolding said
-    said_read e a = rw (e, a.returns, a.output)
+module _ (c : Lent) (o l : List ℕ) (r : ℕ) where
+  pub said_read : (tokens text : Bor (List ℕ)) (end : ℕ) → c ≡ lends.Read tokens text end → Answered (reading (input tokens.now text.now end) (slots o)) (length o) l r → says r l ≡ said_of c (length o)
+  unfolding said
+  said_read tokens text end e a = rw (e, a.returns, a.output)
 
-    pub said-text : entry ≡ Text → Answered (text_reading text (slots o)) (length o) l r → says r l ≡ said entry text first second end (length o)
-    unfolding said
-    said-text e a = rw (e, a.returns, a.output)
+  pub said-text : (text : Bor (List ℕ)) → c ≡ lends.Text text → Answered (text_reading text.now (slots o)) (length o) l r → says r l ≡ said_of c (length o)
+  unfolding said
+  said-text text e a = rw (e, a.returns, a.output)
 
-    pub said_make : entry ≡ Make → Ended (making text first second o) (length o) l r → says r l ≡ said entry text first second end (length o)
-    unfolding said making space
-    said_make e a = rw (e, a.returns, a.output, length-replicate {A = ℕ} (length o) 0)
+  pub said_make : (text pattern params : Bor (List ℕ)) → c ≡ lends.Make text pattern params → Ended (making text.now pattern.now params.now o) (length o) l r → says r l ≡ said_of c (length o)
+  unfolding said making space
+  said_make text pattern params e a = rw (e, a.returns, a.output, length-replicate {A = ℕ} (length o) 0)
 
-    pub said-fill : entry ≡ Fill → Ended (substituting text first second o) (length o) l r → says r l ≡ said entry text first second end (length o)
-    unfolding said substituting space
-    said-fill e a = rw (e, a.returns, a.output, length-replicate {A = ℕ} (length o) 0)
+  pub said-fill : (text template args : Bor (List ℕ)) → c ≡ lends.Fill text template args → Ended (substituting text.now template.now args.now o) (length o) l r → says r l ≡ said_of c (length o)
+  unfolding said substituting space
+  said-fill text template args e a = rw (e, a.returns, a.output, length-replicate {A = ℕ} (length o) 0)
 
 module _ (l records : List ℕ) (r answer : ℕ) where
   pub other-number : (r ≡ answer → ⊥) → false ≡ agreed (says r l) answer records
@@ -47,12 +46,13 @@ module _ (l records : List ℕ) (r answer : ℕ) where
   unfolding agreed
   same_number h b e = rw (eq-eqb r answer h) e
 
-pub output_compared : (entry : Entry) (text first second : List ℕ) (end n n' : ℕ) (l records : List ℕ) (r answer : ℕ) (b : Bool) → n' ≡ n → says r l ≡ said entry text first second end n' → b ≡ agreed (says r l) answer records → b ≡ agreed (said entry text first second end n) answer records
-output_compared entry text first second end n n' l records r answer b e a x = rw (← e, ← a) x
+module _ (c : Lent) where
+  pub output_compared : (n n' : ℕ) (l records : List ℕ) (r answer : ℕ) (b : Bool) → n' ≡ n → says r l ≡ said_of c n' → b ≡ agreed (says r l) answer records → b ≡ agreed (said_of c n) answer records
+  output_compared n n' l records r answer b e a x = rw (← e, ← a) x
 
--- the output is the beginning of a larger one
-pub output-first : (entry : Entry) (text first second : List ℕ) (end n : ℕ) (o records : List ℕ) (answer : ℕ) (b : Bool) → n ≤ length o → b ≡ agreed (said entry text first second end (length (take n o))) answer records → b ≡ agreed (said entry text first second end n) answer records
-output-first entry text first second end n o records answer b h e = rw (← length-take-le n o h) e
+  -- the output is the beginning of a larger one
+  pub output-first : (n : ℕ) (o records : List ℕ) (answer : ℕ) (b : Bool) → n ≤ length o → b ≡ agreed (said_of c (length (take n o))) answer records → b ≡ agreed (said_of c n) answer records
+  output-first n o records answer b h e = rw (← length-take-le n o h) e
 
 -- ---- opening
 

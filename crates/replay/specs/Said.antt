@@ -1,5 +1,5 @@
 -- What the definitions say of a call: the number that is returned and the whole output; and of opening the whole store besides.
-use Rattle.std.specs.Prelude.{ℕ, ◌/◌, List, replicate}
+use Rattle.std.specs.Prelude.{ℕ, ◌/◌, List, [], length, replicate}
 use Rattle.tokens.specs.Input.{input}
 use Rattle.grounds.specs.Opening.{Outcome}
 use Rattle.parser.specs.Reading as reader
@@ -9,6 +9,7 @@ use Rattle.opening.specs.Answers.{Outputs, outputs}
 use Rattle.openings.specs.Calls as opens
 use Rattle.replay.specs.declared.open_cases.Answered.{Answered}
 use Rattle.replay.specs.declared.output_cases.Lent.{Lent}
+use Rattle.replay.specs.declared.output_cases.Lent.TheVariants as lends
 use Rattle.replay.specs.declared.output_cases.Entry.{Entry}
 use Rattle.replay.specs.declared.output_cases.Entry.TheVariants.{Read, Text, Make, Fill}
 
@@ -44,7 +45,17 @@ said Fill text first second end n = of_call (lists.substituting text first secon
 
 -- of what is lent
 abbrev pub said_of : Lent → ℕ → Said
-said_of c n = said c.entry c.text.now c.first.now c.second.now c.end n
+said_of (lends.Read tokens text end) n = said Read text.now tokens.now [] end n
+said_of (lends.Text text) n = said Text text.now [] [] 0 n
+said_of (lends.Make text pattern params) n = said Make text.now pattern.now params.now 0 n
+said_of (lends.Fill text template args) n = said Fill text.now template.now args.now 0 n
+
+-- how many bytes its first list has
+abbrev pub first_size : Lent → ℕ
+first_size (lends.Read tokens text end) = length tokens.now
+first_size (lends.Text text) = 0
+first_size (lends.Make text pattern params) = length pattern.now
+first_size (lends.Fill text template args) = length template.now
 
 -- ---- a store and an output
 

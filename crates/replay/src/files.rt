@@ -14,23 +14,25 @@ enum Kind {
     Open,
 }
 
-fn next_case(
-    rt: &(impl Print + Alloc),
-    cases: &mut impl BufRead,
-    kind: Kind,
-    tally: Tally,
-) -> io::Result<Step> {
-    match kind {
-        Kind::Output(entry) => output_cases::next_case(rt, cases, entry, tally),
-        Kind::Open => open_cases::next_case(rt, cases, tally),
+impl Kind {
+    fn next_case(
+        self,
+        rt: &(impl Print + Alloc),
+        cases: &mut impl BufRead,
+        tally: Tally,
+    ) -> io::Result<Step> {
+        match self {
+            Kind::Output(entry) => output_cases::next_case(rt, cases, entry, tally),
+            Kind::Open => open_cases::next_case(rt, cases, tally),
+        }
     }
 }
 
 // Nothing says that a file ends, so the turns are counted up to a number that no file uses up.
 fn all_cases(rt: &(impl Print + Alloc), cases: &mut impl BufRead, kind: Kind) -> io::Result<Tally> {
-    let mut tally = Tally::none();
+    let mut tally = Tally::default();
     for _ in 0..1000000000u64 {
-        match next_case(rt, cases, kind, tally)? {
+        match kind.next_case(rt, cases, tally)? {
             ControlFlow::Continue(more) => tally = more,
             ControlFlow::Break(last) => return Ok(last),
         }

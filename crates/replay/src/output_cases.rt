@@ -7,7 +7,7 @@
 ghost use Rattle.std.specs.Prelude.{◌≡◌, ◌+◌, ◌*◌, ◌≤◌, true, length};
 ghost use Rattle.replay.specs.Agreed.{agreed};
 ghost use Rattle.replay.specs.Counted.{after_room, after_short, after_case};
-ghost use Rattle.replay.specs.Said.{says, said_of};
+ghost use Rattle.replay.specs.Said.{says, said_of, first_size};
 ghost use Rattle.replay.specs.SmallCase.{SmallCase};
 
 use crate::outputs::{prefill, same_answer, without_space};
@@ -29,25 +29,58 @@ pub enum Entry {
     Fill,
 }
 
-// What an entry is called with; the end position, which reading alone has.
+// What an entry is called with.
 #[derive(Clone, Copy)]
-struct Lent<'a> {
-    entry: Entry,
-    text: &'a [u8],
-    first: &'a [u8],
-    second: &'a [u8],
-    end: u32,
+enum Lent<'a> {
+    Read {
+        tokens: &'a [u8],
+        text: &'a [u8],
+        end: u32,
+    },
+    Text {
+        text: &'a [u8],
+    },
+    Make {
+        text: &'a [u8],
+        pattern: &'a [u8],
+        params: &'a [u8],
+    },
+    Fill {
+        text: &'a [u8],
+        template: &'a [u8],
+        args: &'a [u8],
+    },
 }
 
 impl Lent<'_> {
     fn answer_of(&self, out: &mut [u8]) -> u64
         ensures { says result out.new ≡ said_of self.now (length out.old) }
     {
-        match self.entry {
-            Entry::Read => return read(self.first, self.text, self.end, out),
-            Entry::Text => return read_text(self.text, out),
-            Entry::Make => return make(self.text, self.first, self.second, out),
-            Entry::Fill => return fill(self.text, self.first, self.second, out),
+        match *self {
+            Lent::Read { tokens, text, end } => read(tokens, text, end, out),
+            Lent::Text { text } => read_text(text, out),
+            Lent::Make {
+                text,
+                pattern,
+                params,
+            } => make(text, pattern, params, out),
+            Lent::Fill {
+                text,
+                template,
+                args,
+            } => fill(text, template, args, out),
+        }
+    }
+
+    // How many bytes its first list has.
+    fn first_size(&self) -> usize
+        ensures { result ≡ first_size self.now }
+    {
+        match *self {
+            Lent::Read { tokens, .. } => tokens.len(),
+            Lent::Text { .. } => 0,
+            Lent::Make { pattern, .. } => pattern.len(),
+            Lent::Fill { template, .. } => template.len(),
         }
     }
 
@@ -71,11 +104,11 @@ impl Lent<'_> {
     // An output of just the size, and a larger one. The larger one has room for every list that reading begins and then refuses, and ends
     // within a record.
     fn compare_room(&self, answer: u64, records: &[u8], out: &mut [u8], tally: Tally) -> Tally
-        requires { length records.now + (3 * length self.now.first.now + 1000) ≤ length out.old }
-        ensures { result.differ ≡ after_room tally.differ (said_of self.now) (3 * length self.now.first.now + 1000) answer records.now }
+        requires { length records.now + (3 * first_size self.now + 1000) ≤ length out.old }
+        ensures { result.differ ≡ after_room tally.differ (said_of self.now) (3 * first_size self.now + 1000) answer records.now }
     {
         let size = records.len();
-        let large = size + (3 * self.first.len() + 1000);
+        let large = size + (3 * self.first_size() + 1000);
         let exact = self.agrees_at(out, size, answer, records);
         let larger = self.agrees_at(out, large, answer, records);
         tally.call(exact).call(larger)
@@ -94,8 +127,8 @@ impl Lent<'_> {
     }
 
     fn compare(&self, answer: u64, records: &[u8], out: &mut [u8], tally: Tally) -> Tally
-        requires { length records.now + (3 * length self.now.first.now + 1000) ≤ length out.old }
-        ensures { result.differ ≡ after_case tally.differ (said_of self.now) (3 * length self.now.first.now + 1000) answer records.now }
+        requires { length records.now + (3 * first_size self.now + 1000) ≤ length out.old }
+        ensures { result.differ ≡ after_case tally.differ (said_of self.now) (3 * first_size self.now + 1000) answer records.now }
     {
         let t = self.compare_room(answer, records, out, tally.case());
         self.compare_short(answer, records.len(), out, t)
@@ -103,6 +136,7 @@ impl Lent<'_> {
 }
 
 // Sizes in bytes; and the end position, which reading alone has.
+// Kept: buffers of these sizes are made and filled for each entry alike; an enum would want a match at each buffer.
 #[derive(Clone, Copy)]
 struct Case {
     entry: Entry,
@@ -147,6 +181,30 @@ impl Case {
         match entry {
             Entry::Read => reading_of(head),
             Entry::Text | Entry::Make | Entry::Fill => lists_of(head, entry),
+        }
+    }
+
+    // What its entry is called with, of what was read.
+    fn lent<'a>(self, text: &'a [u8], first: &'a [u8], second: &'a [u8]) -> Lent<'a>
+        ensures { first_size result ≤ length first.now }
+    {
+        match self.entry {
+            Entry::Read => Lent::Read {
+                tokens: first,
+                text,
+                end: self.end,
+            },
+            Entry::Text => Lent::Text { text },
+            Entry::Make => Lent::Make {
+                text,
+                pattern: first,
+                params: second,
+            },
+            Entry::Fill => Lent::Fill {
+                text,
+                template: first,
+                args: second,
+            },
         }
     }
 
@@ -195,13 +253,7 @@ fn replay_case(
         return damaged(rt, tally);
     }
     let mut out = vec![in rt.alloc(); 0u8; c.records + (3 * c.first + 1000)]?;
-    let lent = Lent {
-        entry: c.entry,
-        text: &text,
-        first: &first,
-        second: &second,
-        end: c.end,
-    };
+    let lent = c.lent(&text, &first, &second);
     Ok(ControlFlow::Continue(lent.compare(c.answer, &records, &mut out, tally)))
 }
 

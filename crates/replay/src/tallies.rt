@@ -5,7 +5,7 @@ ghost use Rattle.replay.specs.Counted.{after};
 use std::ops::ControlFlow;
 use std::{fmt, io};
 
-#[derive(Clone, Copy)]
+#[derive(Clone, Copy, Default)]
 pub struct Tally {
     pub cases: u64,
     pub calls: u64,
@@ -15,15 +15,6 @@ pub struct Tally {
 }
 
 impl Tally {
-    pub fn none() -> Tally {
-        Tally {
-            cases: 0,
-            calls: 0,
-            differ: 0,
-            first: None,
-        }
-    }
-
     // A case begins.
     pub fn case(self) -> Tally
         ensures { result.differ ≡ self.differ }

@@ -20,6 +20,7 @@ fn print_refusal(rt: &impl Print, ground: Ground) -> io::Result<()> {
 }
 
 // Kind, flags, child count, position, both halves of word 1, word 2.
+// Kept: an impl Display would be this same write! in a struct made for it alone, and this is its one use.
 fn print_record(rt: &impl Print, r: Rec) -> io::Result<()> {
     let upper = r.word1 / 4294967296;
     let lower = r.word1 % 4294967296;

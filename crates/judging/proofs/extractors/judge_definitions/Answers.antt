@@ -1,5 +1,5 @@
 use Rattle.std.proofs.lemmas.Result.{err_from_is_err_and}
-use Rattle.judging.proofs.ListLaws.{listing_few, listing_end, listing_less, listing_other, listing_here, listing_flawed, listing_after, listing_next}
+use Rattle.judging.proofs.ListLaws.{listing_end, listing_less, listing_other, listing_here, listing_flawed, listing_after, listing_next}
 use Rattle.judging.proofs.extractors.judge_definitions.Goals as goal
 
 pub loop-i-smaller-then-r : goal.loop-i-smaller-then-r
@@ -9,7 +9,7 @@ pub loop-i-preserved-then-r : goal.loop-i-preserved-then-r
 loop-i-preserved-then-r c = search listing_other
 
 pub judge_extractor-requires : goal.judge_extractor-requires
-judge_extractor-requires c = search (listing_few, listing_here)
+judge_extractor-requires c = search listing_here
 
 pub returns-in_err-i : goal.returns-in_err-i
 returns-in_err-i c =

@@ -2,5 +2,5 @@ use Rattle.judging.proofs.WholeLaws.{moved-low}
 use native.Mathlib.Omega.{arith}
 use Rattle.judging.proofs.whole.after_list.Goals as goal
 
-pub overflow_add-result : goal.overflow_add-result
-overflow_add-result c = omega (arith, moved-low _ _ _ c.in-Err.is c.requires.low, c.requires.place_small)
+pub map_err-requires : goal.map_err-requires
+map_err-requires c = λ e is r. omega (arith, moved-low _ _ _ is c.requires.low, c.requires.place_small)

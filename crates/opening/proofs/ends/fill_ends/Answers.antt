@@ -1,4 +1,4 @@
-use Rattle.opening.proofs.EndsLaws.{ending_start, ending_hop, ending_fits, ending_next, ending_end}
+use Rattle.opening.proofs.EndsLaws.{ending_start, ending_hop, ending_fits, ending_next}
 use Rattle.opening.proofs.ends.fill_ends.Goals as goal
 
 pub loop-i-init : goal.loop-i-init
@@ -12,6 +12,3 @@ overflow_cast-ends c = search ending_fits
 
 pub loop-i-preserved : goal.loop-i-preserved
 loop-i-preserved c = search ending_next
-
-pub returns : goal.returns
-returns c = search ending_end

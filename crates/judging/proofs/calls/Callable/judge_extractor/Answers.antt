@@ -1,7 +1,7 @@
 use Rattle.std.proofs.lemmas.Result.{err_from_is_err_and}
 use borrow.Author.Rules.{rules}
 use Rattle.judging.proofs.ExtractorLaws.{kids-there, by_again, by_calls}
-use Rattle.judging.proofs.extractors.judge_extractor.Goals as goal
+use Rattle.judging.proofs.calls.Callable.judge_extractor.Goals as goal
 
 pub returns-in_err-judge_again : goal.returns-in_err-judge_again
 returns-in_err-judge_again c =

@@ -1,5 +1,5 @@
 use Rattle.judging.proofs.CallLaws.{call_second, call_plain, call_number_lem}
-use Rattle.judging.proofs.calls.judge_call.Goals as goal
+use Rattle.judging.proofs.calls.Callable.judge_call.Goals as goal
 
 pub returns-then-r : goal.returns-then-r
 returns-then-r c = search call_plain
