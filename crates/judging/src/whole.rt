@@ -1,5 +1,5 @@
 // The whole order: what is found in the definitions, once, and in a pattern after them.
-ghost use Rattle.std.specs.Prelude.{◌≡◌, ◌+◌, ◌≤◌, ◌<◌, IfSome};
+ghost use Rattle.std.specs.Prelude.{◌≡◌, ◌+◌, ◌≤◌, ◌<◌, length, IfSome};
 ghost use Rattle.trees.specs.Tree.{trees_of};
 ghost use Rattle.records.specs.Slots.{slots, recs};
 ghost use Rattle.grounds.specs.Stages.{found};
@@ -57,7 +57,8 @@ fn judge_deep(src: &[u8], d: usize) -> Result<(), Flaw>
 }
 
 // 33, then the extractors: their number, which the table then holds, or the refusal.
-fn judge_others(text: &[u8], defs: &Definitions, table: &mut [Entry; MOST]) -> Result<usize, Flaw>
+fn judge_others(text: &[u8], defs: &Definitions, table: &mut [Entry]) -> Result<usize, Flaw>
+    requires { MOST ≤ length table.old }
     ensures { OthersJudged text.now defs.now.records.now table.new result }
 {
     let n = make_table(defs, table)?;
@@ -66,7 +67,8 @@ fn judge_others(text: &[u8], defs: &Definitions, table: &mut [Entry; MOST]) -> R
 }
 
 // The definitions, once.
-pub fn judge_once(text: &[u8], defs: &Definitions, table: &mut [Entry; MOST]) -> Findings
+pub fn judge_once(text: &[u8], defs: &Definitions, table: &mut [Entry]) -> Findings
+    requires { MOST ≤ length table.old }
     ensures { FoundIn text.now defs.now.records.now table.new result }
 {
     let args = judge_args(defs.records, 0);
