@@ -129,9 +129,9 @@ module _ (s : Input) where
 
 -- ---- promises
 
--- a row whose items know their place, from its first item on
-pub tuple_row : (stop : Input → ℕ → Bool) (f : Input → ℕ → Reader) {p p₁ p₂ : Parser} {r : Result (Unit {0}) Stop} → Begun p p₁ → ReadAt (λ s. many_at (size s) (stop s) (f s)) p₁ p₂ r → Read (λ s. many_at (size s) (stop s) (f s) 0) p₁ p₂ r
-tuple_row stop f {p₁ = p₁} {p₂ = p₂} {r = r} b m = subst (λ (k : ℕ). Read (λ s. many_at (size s) (stop s) (f s) k) p₁ p₂ r) (ap (λ (x : State). x.items) b.inside) m
+-- a row from its first item on
+pub row_at_start : (stop : Input → ℕ → Bool) (f : Input → ℕ → Reader) {p p₁ p₂ : Parser} {r : Result (Unit {0}) Stop} → Begun p p₁ → ReadAt (λ s. many_at (size s) (stop s) (f s)) p₁ p₂ r → Read (λ s. many_at (size s) (stop s) (f s) 0) p₁ p₂ r
+row_at_start stop f {p₁ = p₁} {p₂ = p₂} {r = r} b m = subst (λ (k : ℕ). Read (λ s. many_at (size s) (stop s) (f s) k) p₁ p₂ r) (ap (λ (x : State). x.items) b.inside) m
 
 module _ {p p₁ p₂ : Parser} (b : Begun p p₁) where
   pub tuple_field_read : {x : ℕ} {n : State} {p₃ : Parser} {u v : Unit {0}} → n ≡ p.state → x ≡ pos_at (read_by p₂) n.next → Read parse_ident p₁ p₂ (Ok u) → ClosedBy (head kind_tuple_field 0 x n.items 0) n p₂ p₃ → ReadAt parse_tuple_field p p₃ (Ok v)

@@ -4,10 +4,10 @@ ghost use Rattle.trees.specs.Ast.{kind_variant, kind_fields_unit};
 ghost use Rattle.trees.specs.KindNumber.{kind_number};
 ghost use Rattle.tokens.specs.Token.{is_rparen};
 ghost use Rattle.tokens.specs.Input.{size, peek};
-ghost use Rattle.steps.specs.Outcome.{◌⊳◌, parent, bare, nothing, row, expect-lparen, expect-rparen, expect-word, parse_ident};
+ghost use Rattle.steps.specs.Outcome.{◌⊳◌, parent, bare, nothing, many_at, row, expect-lparen, expect-rparen, expect-word, parse_ident};
 ghost use Rattle.steps.specs.Met.{state, Near};
 ghost use Rattle.steps.specs.Read.{read_by, Read, ReadAt, Passed, Begins, Went};
-ghost use Rattle.parser.specs.Types.{parse_struct_field, parse_struct_fields, parse_tuple_field, parse_tuple_fields, parse_fields, parse_type_variant, parse_typevalue, parse_type};
+ghost use Rattle.parser.specs.Types.{parse_struct_field, parse_tuple_field, parse_fields, parse_type_variant, parse_typevalue, parse_type};
 ghost use Rattle.parser.specs.Modified.{flags_of, TurnedTo, Modified, no_modifier};
 
 use records::Ground;
@@ -47,16 +47,6 @@ impl Item for StructField {
     }
 }
 
-fn parse_struct_fields(p: &mut Parser) -> Result<(), Stop>
-    requires { Begins 2 p.old }
-    ensures reads { Read parse_struct_fields p.old p.new result }
-    ensures within { IfOk result (λ _. Went 0 0 1 p.old p.new) }
-{
-    let node = p.begin();
-    p.parse_row::<StructField>()?;
-    Ok(p.close_at(node, Kind::FieldsStruct, 0))
-}
-
 // A type; its index is how many stand before it.
 fn parse_tuple_field(p: &mut Parser) -> Result<(), Stop>
     requires { Begins 4 p.old }
@@ -89,14 +79,15 @@ impl Item for TupleField {
     }
 }
 
-fn parse_tuple_fields(p: &mut Parser) -> Result<(), Stop>
+// The fields of a struct or a tuple, in a row up to a `)`.
+fn fields<I: Item>(p: &mut Parser, kind: Kind) -> Result<(), Stop>
     requires { Begins 2 p.old }
-    ensures reads { Read parse_tuple_fields p.old p.new result }
+    ensures reads { Read (λ s. parent s (kind_number kind) 0 (many_at (size s) (I.stop s) (I.reader s) 0)) p.old p.new result }
     ensures within { IfOk result (λ _. Went 0 0 1 p.old p.new) }
 {
     let node = p.begin();
-    p.parse_row::<TupleField>()?;
-    Ok(p.close_at(node, Kind::FieldsTuple, 0))
+    p.parse_row::<I>()?;
+    Ok(p.close_at(node, kind, 0))
 }
 
 // No fields, which take no token.
@@ -119,9 +110,9 @@ fn parse_fields(p: &mut Parser) -> Result<(), Stop>
         return Ok(unit_fields(p));
     }
     if t.is_lparen() {
-        return parse_struct_fields(p);
+        return fields::<StructField>(p, Kind::FieldsStruct);
     }
-    parse_tuple_fields(p)
+    fields::<TupleField>(p, Kind::FieldsTuple)
 }
 
 // `(name fields)`

@@ -183,7 +183,8 @@ impl Parser<'_> {
         self.expect_kind(TokenKind::LParen)
     }
 
-    // The same by the next token t, which its caller has read already.
+    // The same by the next token t.
+    // Kept: beside expect_lparen, since the caller has read the token already; expect_lparen reads its kind alone.
     pub fn expect_lparen_of(&mut self, t: Token) -> Result<(), Stop>
         requires { t ≡ peek (read_by self.old) self.old.state.next }
         ensures reads { Read expect-lparen self.old self.new result }

@@ -37,6 +37,7 @@ impl Parser<'_> {
     }
 
     // The same by its first token t.
+    // Kept: beside close_at, since the caller has read the token already; close_at reads its position alone.
     pub fn close_of(&mut self, node: State, kind: Kind, flags: u8, t: Token)
         requires near { Near node }
         requires few { self.old.state.items < 65536 }
@@ -102,6 +103,8 @@ impl Parser<'_> {
     }
 
     // A node over the name of a constant, by the next token t, which starts with `$`.
+    // Kept: beside ident_node_of, whose callers know another thing of the token and are promised another reader; one over the name of both would
+    // have these two as its callers.
     pub fn const_node_of(&mut self, kind: Kind, t: Token) -> Result<(), Stop>
         requires ready { Begins 8 self.old }
         requires next { t ≡ peek (read_by self.old) self.old.state.next }

@@ -73,6 +73,7 @@ impl Parser<'_> {
     }
 
     // The items of a row, as many as there are.
+    // Kept: a `while` loop, since each item starts where the one before it ends, so that no iterator has the items.
     pub fn parse_row<I: Item>(&mut self) -> Result<(), Stop>
         requires { Begins 4 self.old }
         ensures reads { ReadAt (λ s. many_at (size s) (I.stop s) (I.reader s)) self.old self.new result }

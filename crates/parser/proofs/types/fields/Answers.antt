@@ -1,0 +1,9 @@
+use Rattle.steps.proofs.ReadLaws.{exit, node_at, node_stopped}
+use Rattle.parser.proofs.TypeLaws.{row_at_start}
+use Rattle.parser.proofs.types.fields.Goals as goal
+
+pub returns-in_err-parse_row-clause-reads : goal.returns-in_err-parse_row-clause-reads
+returns-in_err-parse_row-clause-reads g c = exit c.from_residual.ensures (node_stopped _ _ c.begin-node.ensures.begun (row_at_start _ _ c.begin-node.ensures.begun c.in_err-parse_row.ensures.reads))
+
+pub returns-clause-reads : goal.returns-clause-reads
+returns-clause-reads g c = node_at _ c.begin-node.ensures.start c.begin-node.ensures.begun (row_at_start _ _ c.begin-node.ensures.begun c.in_ok-parse_row.ensures.reads) c.close_at.ensures
