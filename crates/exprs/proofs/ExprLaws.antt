@@ -2,7 +2,6 @@
 use Prim.Native.Nat.{ℕ, zero, suc, ◌-◌}
 use native.Mathlib.Omega.{arith}
 use mathlib.Core.Path.{◌≡◌, refl}
-use mathlib.Core.List.{List}
 use Rattle.trees.specs.Ast.{kind_expr_term, kind_expr_var, kind_expr_const_bool, kind_expr_const_prim, kind_expr_let, kind_let_def}
 use Rattle.tokens.specs.Token.{is_lparen, is_rparen, is_symbol, is_int, is_const, is_word}
 use Rattle.tokens.specs.Input.{Input, peek}

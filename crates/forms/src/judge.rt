@@ -183,6 +183,8 @@ fn scan_any(list: &[u8], t: usize, base: Option<Sort>, n: usize) -> bool
 }
 
 // Whether the list is one pattern, where the text has t bytes.
+// Kept: here and in what else other crates call the limit is a premise: they hold slices, and a struct with it as a fact would be made anew at
+// each of their calls.
 pub fn one_pattern(list: &[u8], t: usize) -> bool
     requires { slots list.now ≤ 65536 }
     ensures { result ≡ is_one t pattern (recs list.now) }

@@ -2,7 +2,7 @@
 use Prim.Native.Nat.{ℕ, ◌+◌, ◌-◌, ◌*◌, ◌<◌, ◌≤◌}
 use native.Mathlib.Omega.{arith}
 use mathlib.Core.Path.{◌≡◌, refl, ap, subst, ◌∙◌}
-use mathlib.Core.List.{List, [], ◌∷◌}
+use mathlib.Core.List.{List}
 use mathlib.Core.Bool.{Bool, true, false}
 use Rattle.trees.specs.Choice.{pick}
 use Rattle.trees.specs.Tree.{∅, ◌⧺◌}
@@ -13,11 +13,10 @@ use Rattle.tokens.specs.Input.{Input, peek, size}
 use Rattle.steps.specs.Keywords.{word_pure, word_multi, word_partial, word-rec, word_constructor, word-extractor, word_infallible, word_const}
 use Rattle.steps.specs.Outcome.{Reader, and_then, before, ◌⊳◌, parent, flagged, refuse_at, if_next, row, expect-lparen, expect-rparen, expect-word, ate, eat, parse_ident, parse_const}
 use mir.Val.{bool_byte}
-use Rattle.std.specs.Prelude.{Result, Ok, Err}
+use Rattle.std.specs.Prelude.{Ok}
 use Rattle.steps.specs.declared.Parser.{Parser}
 use Rattle.steps.specs.declared.Source.{Source}
 use Rattle.steps.specs.declared.State.{State}
-use Rattle.steps.specs.declared.Stop.{Stop}
 use Rattle.steps.specs.Sizes.{Bounded}
 use Rattle.steps.specs.Met.{seen, Met}
 use Rattle.steps.specs.Read.{read_by, came_to, Same, Read, Passed, Begun}

@@ -1,5 +1,5 @@
 -- How far attributes and whole definitions read, and definitions by their word. Assumes nothing.
-use Prim.Native.Nat.{ℕ, ◌+◌, ◌-◌, ◌/◌}
+use Prim.Native.Nat.{ℕ, ◌+◌, ◌-◌}
 use native.Mathlib.Omega.{arith}
 use mathlib.Core.Path.{◌≡◌, refl, sym, subst, ◌∙◌}
 use mathlib.Core.List.{List}
@@ -8,9 +8,9 @@ use lib.Dec.{leb}
 use Rattle.trees.specs.Choice.{pick}
 use Rattle.trees.specs.Ast.{kind_attr, kind_attr_kind_chain, kind_attr_kind_priority, kind_attr_kind_tag}
 use Rattle.tokens.specs.declared.Token.{Token}
-use Rattle.tokens.specs.Token.{is_lparen, is_rparen, is_word}
-use Rattle.tokens.specs.Input.{Input, input, peek, size}
-use Rattle.steps.specs.Keywords.{word_pragma, word_type, word_decl, word_attr, word-rule, word-extractor, word_extern, word_convert, word_spec, word_macro, word_state, word_model, word_form, word_instantiate, word_veri, word_tag, word_chain, word-priority}
+use Rattle.tokens.specs.Token.{is_rparen, is_word}
+use Rattle.tokens.specs.Input.{Input, peek, size}
+use Rattle.steps.specs.Keywords.{word_pragma, word_type, word_decl, word_attr, word-rule, word-extractor, word_extern, word_convert, word_veri, word_tag, word_chain, word-priority}
 use Rattle.steps.specs.Outcome.{Reader, ◌⊳◌, bare, refuse_after, if_next, if_second, row, expect-lparen, expect-rparen, expect-word, ate, eat, parse_ident}
 use Rattle.std.specs.Prelude.{Result, Ok, Err}
 use Rattle.std.specs.Result.{IsErr, IsErrAnd}

@@ -2,23 +2,21 @@
 use Prim.Native.Nat.{ℕ, zero, suc, ◌+◌, ◌<◌, ◌≤◌}
 use native.Mathlib.Omega.{arith}
 use mathlib.Core.Path.{◌≡◌, refl, sym, ap, subst, ◌∙◌}
-use mathlib.Core.List.{List, [], ◌∷◌}
 use mathlib.Core.Bool.{Bool, true, false}
 use Rattle.trees.specs.Choice.{choose}
 use Rattle.trees.specs.Tree.{∅}
 use Rattle.trees.proofs.Laws.{size_none}
 use Rattle.tokens.specs.declared.Token.{Token}
 use Rattle.tokens.specs.Token.{is_symbol, is_word}
-use Rattle.tokens.specs.Input.{Input, input, peek, pos_at, size}
+use Rattle.tokens.specs.Input.{Input, peek, pos_at, size}
 use Rattle.steps.specs.Keywords.{word_extern, word_nodebug}
-use Rattle.steps.specs.Outcome.{accept, refuse, refusal, parse_ident}
+use Rattle.steps.specs.Outcome.{accept, refuse, refusal}
 use Rattle.std.specs.Prelude.{Result, Ok, Err, Option, Some, None}
 use Rattle.steps.specs.declared.Parser.{Parser}
 use Rattle.steps.specs.declared.Source.{Source}
 use Rattle.steps.specs.declared.State.{State}
 use Rattle.steps.specs.declared.Stop.{Stop}
-use Rattle.steps.specs.Sizes.{Bounded}
-use Rattle.steps.specs.Met.{seen, state, Met, Moved}
+use Rattle.steps.specs.Met.{seen, state, Met}
 use Rattle.steps.specs.Read.{read_by, came_to, Same, Read}
 use Rattle.records.specs.declared.Ground.TheVariants.{TypeModifier}
 use Rattle.steps.proofs.MetLaws.{begun}

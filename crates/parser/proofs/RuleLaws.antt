@@ -3,7 +3,7 @@ use Prim.Native.Nat.{ℕ, ◌+◌, ◌*◌, ◌<◌, ◌≤◌}
 use native.Mathlib.Omega.{arith}
 use native.Mathlib.Nat.{add-zero}
 use mathlib.Core.Path.{◌≡◌, refl, sym, ap, subst, ◌∙◌}
-use mathlib.Core.List.{List, [], ◌∷◌}
+use mathlib.Core.List.{List}
 use mathlib.Core.Bool.{Bool, true, false}
 use lib.Dec.{eqb}
 use mir.Val.{bool_byte}
@@ -14,8 +14,8 @@ use Rattle.trees.specs.declared.Head.{Head}
 use Rattle.trees.specs.Ast.{kind_rule, kind_priority, flag}
 use Rattle.trees.proofs.Laws.{size_none, size-one, size-node}
 use Rattle.tokens.specs.declared.Token.{Token}
-use Rattle.tokens.specs.Token.{token_at, is_symbol, is_int, is_refused}
-use Rattle.tokens.specs.Input.{Input, input, peek, pos_at, size}
+use Rattle.tokens.specs.Token.{is_symbol, is_int, is_refused}
+use Rattle.tokens.specs.Input.{Input, peek, pos_at, size}
 use Rattle.steps.specs.Outcome.{accept, refuse, refusal, ◌⊳◌, nothing, refuse_after, if_second, many, name_by, refused_as}
 use Rattle.std.specs.Prelude.{Result, Ok, Err}
 use Rattle.steps.specs.declared.Parser.{Parser}
@@ -23,7 +23,7 @@ use Rattle.steps.specs.declared.Source.{Source}
 use Rattle.steps.specs.declared.State.{State}
 use Rattle.steps.specs.declared.Stop.{Stop}
 use Rattle.steps.specs.Sizes.{Sized, Bounded}
-use Rattle.steps.specs.Met.{seen, state, Met, Chained, Leafed}
+use Rattle.steps.specs.Met.{seen, Met, Chained, Leafed}
 use Rattle.steps.specs.Read.{read_by, came_to, Read, Begun}
 use Rattle.records.specs.declared.Ground.TheVariants.{Priority}
 use Rattle.steps.proofs.MetLaws.{begun, leaf_met}

@@ -6,9 +6,8 @@ use mathlib.Core.List.{List}
 use mathlib.Core.Bool.{Bool}
 use Rattle.trees.specs.Tree.{head}
 use Rattle.trees.specs.Ast.{kind_type_def, kind_type_value_primitive, kind_type_value_enum, kind_type_value_struct, kind_variant, kind_fields_unit, kind_fields_struct, kind_fields_tuple, kind_struct_field, kind_tuple_field}
-use Rattle.tokens.specs.declared.Token.{Token}
-use Rattle.tokens.specs.Token.{token_at, is_lparen, is_rparen, is_symbol, is_word}
-use Rattle.tokens.specs.Input.{Input, input, peek, pos_at, size}
+use Rattle.tokens.specs.Token.{is_lparen, is_rparen, is_symbol, is_word}
+use Rattle.tokens.specs.Input.{Input, peek, pos_at, size}
 use Rattle.steps.specs.Keywords.{word_primitive, word_enum, word_struct}
 use Rattle.steps.specs.Outcome.{Reader, ◌⊳◌, parent, bare, nothing, refuse_after, if_next, if_second, many_at, row, expect-lparen, expect-rparen, expect-word, parse_ident}
 use Rattle.std.specs.Prelude.{Result, Ok, Err}
@@ -16,7 +15,7 @@ use Rattle.steps.specs.declared.Parser.{Parser}
 use Rattle.steps.specs.declared.Source.{Source}
 use Rattle.steps.specs.declared.State.{State}
 use Rattle.steps.specs.declared.Stop.{Stop}
-use Rattle.steps.specs.Sizes.{Sized, BoundedAt, Bounded}
+use Rattle.steps.specs.Sizes.{BoundedAt, Bounded}
 use Rattle.steps.specs.Met.{seen}
 use Rattle.steps.specs.Read.{read_by, came_to, Read, ReadAt, Begun, ClosedBy}
 use Rattle.steps.proofs.MetLaws.{node_over, node_none}
@@ -139,7 +138,7 @@ module _ {p p₁ p₂ : Parser} (b : Begun p p₁) where
   tuple_field_read {x = x} {n = n} {p₃ = p₃} {u = u} z a m c =
       let y : x ≡ pos_at (read_by p) p.state.next = a ∙ ap (λ (k : Source). pos_at (seen k) n.next) (m.same.source ∙ b.same.source) ∙ ap (λ (k : State). pos_at (read_by p) k.next) z in
       let d : ClosedBy (head kind_tuple_field 0 (pos_at (read_by p) p.state.next) p.state.items 0) p.state p₂ p₃ =
-          subst (λ (k : ℕ). ClosedBy (head kind_tuple_field 0 k p.state.items 0) p.state p₂ p₃) y (subst (λ (k : State). ClosedBy (head kind_tuple_field 0 x k.items 0) k p₂ p₃) z c)
+      subst (λ (k : ℕ). ClosedBy (head kind_tuple_field 0 k p.state.items 0) p.state p₂ p₃) y (subst (λ (k : State). ClosedBy (head kind_tuple_field 0 x k.items 0) k p₂ p₃) z c)
       in
       record {
         read = record { met = node_over (parse_ident (read_by p)) (head kind_tuple_field 0 (pos_at (read_by p) p.state.next) p.state.items 0) p.state p₁.state p.out.now p₂.out.now p₃.out.now p₂.state p₃.state d.closed b.inside (children parse_ident p p₁ p₂ (Ok u) b m) };

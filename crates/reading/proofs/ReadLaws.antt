@@ -14,9 +14,8 @@ use Rattle.trees.specs.Tree.{Trees, records_all}
 use Rattle.records.specs.Slots.{slots, writes}
 use Rattle.records.specs.Result.{accepted, refused}
 use Rattle.records.proofs.BackLaws.{writes-cleared}
-use Rattle.tokens.specs.Token.{token_count}
 use Rattle.tokens.specs.Lent.{first_bad}
-use Rattle.tokens.specs.Input.{Input, input, size}
+use Rattle.tokens.specs.Input.{Input, size}
 use Rattle.std.specs.Prelude.{Result, Ok, Err}
 use Rattle.std.specs.Result.{IfOk, IsErr, IsErrAnd}
 use Rattle.std.proofs.lemmas.Result.{err_from_is_err_and}

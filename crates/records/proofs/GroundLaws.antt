@@ -1,5 +1,5 @@
 -- No ground has the number 0, which stands for none. Assumes nothing.
-use Prim.Native.Nat.{ℕ, ◌<◌}
+use Prim.Native.Nat.{◌<◌}
 use native.Mathlib.Omega.{arith}
 use mathlib.Core.Path.{◌≡◌, refl}
 use Rattle.records.specs.declared.Ground.{Ground}

@@ -8,7 +8,6 @@ use borrow.Author.Tests.{eq-eqb, ne_eqb}
 use Rattle.std.specs.Prelude.{Result, Ok, Err}
 use Rattle.std.specs.Result.{IfOk, IsErr, IsErrAnd}
 use Rattle.std.proofs.lemmas.Result.{err_from_is_err_and, IfOk-weaker}
-use Rattle.trees.specs.Choice.{choose}
 use Rattle.trees.specs.Tree.{Trees, node, ∅, ◌▸◌, count, head, record_of, records_all}
 use Rattle.trees.specs.declared.Head.{Head}
 use Rattle.trees.proofs.Laws.{size_none, size-one, size-node, size_⧺, count_none, count-one, count_⧺, count-size}
@@ -20,8 +19,8 @@ use Rattle.tokens.specs.Input.{Input, peek, pos_at, size}
 use Rattle.steps.specs.declared.State.{State}
 use Rattle.steps.specs.declared.Stop.{Stop}
 use Rattle.steps.specs.Outcome.{Outcome, accept, refuse, Reader, before, and_then, ◌⊳◌, then_at, node_of, parent, bare, leaf, nothing, flagged, if_next, if_second}
-use Rattle.steps.specs.Sizes.{Fit, Sized, Bounded}
-use Rattle.steps.specs.Met.{told, state, Taken, Met, Chained, Moved, inside, Closed, Leafed, Ready, Within}
+use Rattle.steps.specs.Sizes.{Sized, Bounded}
+use Rattle.steps.specs.Met.{state, Taken, Met, Chained, Moved, inside, Closed, Leafed, Ready, Within}
 
 -- ---- outcomes
 

@@ -1,10 +1,9 @@
 -- How promises of a parser are put together as readers are: laws that serve every parse function. Assumes nothing.
-use Prim.Native.Nat.{ℕ, suc, ◌+◌, ◌<◌, ◌≤◌}
+use Prim.Native.Nat.{ℕ, ◌+◌, ◌<◌}
 use native.Mathlib.Omega.{arith}
 use mathlib.Core.Path.{◌≡◌, refl, sym, ap, subst, ◌∙◌}
 use mathlib.Core.List.{List}
 use mathlib.Core.Bool.{Bool, true, false}
-use borrow.Author.Tests.{eq-eqb, ne_eqb}
 use Rattle.std.specs.Prelude.{Result, Ok, Err}
 use Rattle.std.specs.Result.{IfOk, IsErr, IsErrAnd}
 use Rattle.std.proofs.lemmas.Result.{err_from_is_err_and}
@@ -19,10 +18,10 @@ use Rattle.steps.specs.declared.Parser.{Parser}
 use Rattle.steps.specs.declared.Source.{Source}
 use Rattle.steps.specs.declared.State.{State}
 use Rattle.steps.specs.declared.Stop.{Stop}
-use Rattle.steps.specs.Outcome.{Outcome, accept, refuse, Reader, ident_at, name_by, ◌⊳◌, parent, bare, leaf, nothing, flagged, if_next, if_second, expect_at, unexpected, ate, eat, many, many_at}
+use Rattle.steps.specs.Outcome.{accept, refuse, Reader, ident_at, name_by, ◌⊳◌, parent, bare, leaf, nothing, flagged, if_next, if_second, expect_at, unexpected, ate, eat, many, many_at}
 use Rattle.steps.specs.Sizes.{Bounded}
-use Rattle.steps.specs.Met.{seen, told, state, Met, SymbolAt, Chained, Moved, Closed, Leafed, Ready, Within, inside}
-use Rattle.steps.specs.Read.{read_by, came_to, Same, Read, Passed, ReadAt, Begun, ClosedBy, LeafedBy, Begins, Went}
+use Rattle.steps.specs.Met.{seen, told, state, Met, SymbolAt, Chained, Moved, Ready, Within}
+use Rattle.steps.specs.Read.{read_by, came_to, Same, Read, ReadAt, Begun, ClosedBy, LeafedBy, Begins, Went}
 use Rattle.steps.proofs.MetLaws as met
 use Rattle.steps.proofs.SizeLaws.{less_bounded}
 use Rattle.steps.proofs.StepLaws as steps

@@ -1,22 +1,21 @@
 -- How far a part reads and how many records it makes: at most three for each token. Assumes nothing.
-use Prim.Native.Nat.{ℕ, ◌+◌, ◌*◌, ◌<◌, ◌≤◌}
+use Prim.Native.Nat.{ℕ, ◌+◌, ◌<◌, ◌≤◌}
 use native.Mathlib.Omega.{arith}
-use mathlib.Core.Path.{◌≡◌, refl, sym, subst}
-use mathlib.Core.List.{List, []}
+use mathlib.Core.Path.{◌≡◌, refl, subst}
+use mathlib.Core.List.{List}
 use mathlib.Core.Bool.{Bool, true, false}
-use lib.ListN.{length}
 use lib.Dec.{eqb}
 use borrow.Author.Tests.{eqb-true}
 use Rattle.trees.specs.Choice.{pick, choose}
-use Rattle.trees.specs.Tree.{Trees, node, ∅, ◌▸◌, ◌⧺◌, head, records_all}
+use Rattle.trees.specs.Tree.{Trees, node, ∅, ◌▸◌, ◌⧺◌, head}
 use Rattle.trees.specs.declared.Head.{Head}
 use Rattle.trees.specs.Ast.{ident_node}
 use Rattle.trees.specs.Names.{spelled, without_first}
-use Rattle.trees.proofs.Laws.{size_none, size-one, size-node, size_⧺, count-size}
+use Rattle.trees.proofs.Laws.{size_none, size-one, size-node, size_⧺}
 use Rattle.tokens.specs.declared.Token.{Token}
-use Rattle.tokens.specs.Token.{token_at, is_kind, is_lparen, is_rparen, is_symbol, is_int, is_at, is_const, is_word}
+use Rattle.tokens.specs.Token.{is_kind, is_lparen, is_rparen, is_symbol, is_int, is_at, is_word}
 use Rattle.tokens.specs.Ident.{ident_refusal}
-use Rattle.tokens.specs.Input.{Input, input, peek, size}
+use Rattle.tokens.specs.Input.{Input, peek, size}
 use Rattle.tokens.proofs.TokenLaws.{kind-inside, word-kind}
 use Rattle.steps.specs.Sizes.{Fit, Sized, BoundedAt, Bounded}
 use Rattle.steps.specs.Outcome.{Outcome, Refusal, accept, refuse, Reader, refusal, before, and_then, ◌⊳◌, node_of, parent, bare, leaf, nothing, refuse_from, refuse_at, flagged, ate, eat, refuse_after, refused_as, pragma_refusal, if_next, if_second, unexpected, expect_at, expect-lparen, expect-rparen, expect-at, expect-word, ident_at, name_by, parse_ident, const_refusal, parse_const}

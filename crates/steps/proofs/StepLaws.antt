@@ -1,27 +1,24 @@
 -- Laws of single steps, one for each way through their code. Assumes nothing.
-use Prim.Native.Nat.{ℕ, ◌+◌, ◌-◌, ◌<◌, ◌≤◌}
+use Prim.Native.Nat.{ℕ, ◌+◌, ◌-◌, ◌<◌}
 use native.Mathlib.Omega.{arith}
-use mathlib.Core.Path.{◌≡◌, refl, sym, ap, subst, ◌∙◌}
+use mathlib.Core.Path.{◌≡◌, refl, sym, ap, ◌∙◌}
 use mathlib.Core.List.{List, []}
 use mathlib.Core.Bool.{Bool, true, false}
-use lib.Dec.{eqb}
 use mir.Val.{bool_byte}
-use borrow.Author.Tests.{eq-eqb, ne_eqb, eqb-true}
-use Rattle.std.specs.Prelude.{Result, Ok, Err}
+use borrow.Author.Tests.{eq-eqb, ne_eqb}
+use Rattle.std.specs.Prelude.{Ok, Err}
 use Rattle.trees.specs.Choice.{pick, choose}
 use Rattle.trees.specs.Tree.{∅}
 use Rattle.records.specs.declared.Ground.{Ground}
-use Rattle.records.specs.declared.Ground.TheVariants.{UnexpectedToken, UnexpectedEnd}
 use Rattle.records.specs.Grounds.{number}
 use Rattle.tokens.specs.declared.Token.{Token}
-use Rattle.tokens.specs.Token.{token_at, kind_at, is_kind, is_lparen, is_rparen, is_symbol, is_at, is_word}
+use Rattle.tokens.specs.Token.{token_at, kind_at, is_kind, is_word}
 use Rattle.tokens.specs.Input.{Input, peek, size}
 use Rattle.tokens.proofs.TokenLaws.{kind-is}
 use Rattle.steps.specs.declared.State.{State}
 use Rattle.steps.specs.declared.Stop.{Stop}
-use Rattle.steps.specs.Outcome.{Outcome, accept, refuse, Reader, Refusal, refusal, refuse_from, ate, eat, refuse_after, unexpected, expect_at}
-use Rattle.steps.specs.Sizes.{Bounded}
-use Rattle.steps.specs.Met.{told, state, Met, Chained, Moved, Within}
+use Rattle.steps.specs.Outcome.{accept, refuse, refusal, refuse_from, ate, eat, refuse_after, unexpected, expect_at}
+use Rattle.steps.specs.Met.{told, state, Met, Moved, Within}
 use Rattle.steps.proofs.MetLaws.{begun, bounded_within}
 use Rattle.steps.proofs.SizeLaws.{eat_steady}
 

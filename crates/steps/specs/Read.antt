@@ -1,5 +1,5 @@
 -- What the parse functions promise of the parser that they leave.
-use Rattle.std.specs.Prelude.{ℕ, ◌≡◌, List, Result, Ok, Err}
+use Rattle.std.specs.Prelude.{ℕ, ◌≡◌, Result, Ok, Err}
 use Rattle.trees.specs.declared.Head.{Head}
 use Rattle.tokens.specs.Input.{Input}
 use Rattle.steps.specs.declared.Parser.{Parser}

@@ -120,7 +120,10 @@ impl Parser<'_> {
         requires { self.now.state.next < 4294967296 }
         ensures { result ≡ (peek (read_by self.now) (self.now.state.next + 1)).kind }
     {
-        kind_at(self.source.tokens, after(self.source.tokens, self.state.next))
+        kind_at(
+            self.source.tokens,
+            after(self.source.tokens, self.state.next),
+        )
     }
 
     // The position of the next token.

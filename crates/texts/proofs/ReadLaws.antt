@@ -17,9 +17,9 @@ use Rattle.records.proofs.BackLaws.{bytes_all, writes_front}
 use Rattle.tokens.specs.declared.Token.{Token}
 use Rattle.tokens.specs.Token.{token_count, is_refused, is_too_many}
 use Rattle.tokens.specs.Lent.{ascii}
-use Rattle.tokens.specs.Input.{Input, input, peek, size}
+use Rattle.tokens.specs.Input.{Input, input, peek}
 use Rattle.std.specs.Prelude.{Result, Ok, Err}
-use Rattle.std.specs.Result.{IfOk, IsErr, IsErrAnd}
+use Rattle.std.specs.Result.{IsErr, IsErrAnd}
 use Rattle.std.proofs.lemmas.Result.{err_from_is_err_and}
 use Rattle.records.specs.declared.Ground.TheVariants.{TooMuch, NotAToken, RuleName}
 use Rattle.records.specs.Grounds.{number}
@@ -27,7 +27,7 @@ use Rattle.records.proofs.GroundLaws.{rule_name_number}
 use Rattle.steps.specs.declared.State.{State}
 use Rattle.steps.specs.declared.Stop.{Stop}
 use Rattle.steps.specs.Outcome.{Outcome, accept, refuse, refusal}
-use Rattle.steps.specs.Met.{told, state, Met, Chained, Within}
+use Rattle.steps.specs.Met.{told, state, Met, Chained}
 use Rattle.parser.specs.Defs.{parse_defs}
 use Rattle.parser.specs.Reading.{stopped, fitted}
 use Rattle.reading.specs.Answered.{Answered, Finished, Countable}

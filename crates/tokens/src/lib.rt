@@ -46,6 +46,7 @@ pub struct Token {
 
 impl Token {
     // The bytes of a token record, and the numbers of the kinds.
+    // Kept: document 01 names this form, and a lent record may have any number below 16 as its kind.
     pub const WIDTH: usize = 24;
 
     pub const NONE: u8 = TokenKind::Nothing as u8;

@@ -1,4 +1,4 @@
-use Rattle.std.proofs.Common.{ℕ, suc, ◌+◌, ◌-◌, ◌*◌}
+use Rattle.std.proofs.Common.{suc, ◌+◌, ◌-◌, ◌*◌}
 use Rattle.tokens.specs.Token.{is_rparen}
 use Rattle.tokens.specs.Input.{peek, size}
 use Rattle.steps.specs.Read.{read_by}

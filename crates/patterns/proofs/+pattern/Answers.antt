@@ -1,4 +1,4 @@
-use Rattle.std.proofs.Common.{arith, sym, ◌∙◌}
+use Rattle.std.proofs.Common.{sym, ◌∙◌}
 use Rattle.tokens.specs.Token.{is_rparen}
 use Rattle.tokens.specs.Input.{peek}
 use Rattle.steps.proofs.ReadLaws.{◌▷◌, stop, exit, node_of, node_stopped, next_begun, next_yes, next_no, second_yes, second_no, second_at, second_not_at, leaf_read, bounded_went, plain_row, turning_start, turning_on, turning_stop, turning_end}

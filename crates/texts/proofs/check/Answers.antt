@@ -1,4 +1,3 @@
-use Rattle.std.proofs.Common.{rules}
 use Rattle.texts.proofs.ReadLaws.{too_long, plain, not_ascii}
 use Rattle.texts.proofs.check.Goals as goal
 

@@ -1,7 +1,7 @@
-use Rattle.std.proofs.Common.{arith, sym, refl, ap, ◌∙◌, ◌+◌, ◌-◌}
+use Rattle.std.proofs.Common.{◌∙◌, ◌-◌}
 use Rattle.steps.specs.Keywords.{word-rule}
 use Rattle.steps.specs.Outcome.{ate}
-use Rattle.steps.proofs.ReadLaws.{◌▷◌, stop, exit, stepped, refused, unmoved, node_at, node_stopped, bare_read, bare_stopped, flagged_read, flagged_stopped, empty_node, nothing_read, next_yes, next_no, second_yes, second_no, bounded_went, plain_row}
+use Rattle.steps.proofs.ReadLaws.{◌▷◌, stop, exit, flagged_read, flagged_stopped}
 use Rattle.parser.specs.Defs.{parse_attr}
 use Rattle.parser.proofs.DeclLaws.{flag_begun}
 use Rattle.parser.proofs.attrs.parse_attr.Goals as goal

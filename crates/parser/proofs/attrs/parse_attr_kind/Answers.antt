@@ -1,6 +1,5 @@
-use Rattle.std.proofs.Common.{arith, sym, refl, ap, ◌∙◌, ◌+◌, ◌-◌}
 use Rattle.steps.proofs.ReadLaws.{bounded_on}
-use Rattle.steps.proofs.ReadLaws.{◌▷◌, stop, exit, stepped, refused, unmoved, node_at, node_stopped, bare_read, bare_stopped, flagged_read, flagged_stopped, empty_node, nothing_read, next_yes, next_no, second_yes, second_no, bounded_went, plain_row}
+use Rattle.steps.proofs.ReadLaws.{◌▷◌, stop, exit, second_yes, second_no}
 use Rattle.parser.specs.Defs.{parse_attr_kind}
 use Rattle.parser.proofs.DefLaws.{attr_kind_bounded}
 use Rattle.parser.proofs.attrs.parse_attr_kind.Goals as goal

@@ -1,10 +1,5 @@
-use Rattle.std.proofs.Common.{arith, sym, refl, ap, ◌∙◌, ◌+◌, ◌-◌}
-use Rattle.steps.specs.declared.State.{State}
-use Rattle.steps.specs.declared.Source.{Source}
-use Rattle.steps.specs.Met.{seen}
-use Rattle.steps.specs.Read.{read_by}
 use Rattle.parser.proofs.DeclLaws.{flags_begun}
-use Rattle.steps.proofs.ReadLaws.{◌▷◌, stop, exit, stepped, refused, unmoved, node_at, node_stopped, bare_read, bare_stopped, flagged_read, flagged_stopped, empty_node, nothing_read, next_yes, next_no, second_yes, second_no, bounded_went, plain_row}
+use Rattle.steps.proofs.ReadLaws.{◌▷◌, exit, flagged_read, flagged_stopped}
 use Rattle.parser.specs.Defs.{decl_flags, parse_decl}
 use Rattle.parser.proofs.decls.parse_decl.Goals as goal
 

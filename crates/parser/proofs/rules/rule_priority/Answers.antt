@@ -1,7 +1,6 @@
-use Rattle.std.proofs.Common.{arith, sym, refl, ap, ◌∙◌, ◌+◌, ◌-◌}
+use Rattle.std.proofs.Common.{refl}
 use Rattle.steps.specs.Read.{read_by}
-use Rattle.steps.proofs.ReadLaws.{◌▷◌, stop, exit, stepped, refused, unmoved, node_at, node_stopped, bare_read, bare_stopped, flagged_read, flagged_stopped, empty_node, nothing_read, next_yes, next_no, second_yes, second_no, bounded_went, plain_row}
-use Rattle.parser.specs.Defs.{rule_priority}
+use Rattle.steps.proofs.ReadLaws.{stepped, refused, unmoved, bounded_went}
 use Rattle.parser.proofs.RuleLaws.{priority_none, priority_refused, priority_read, priority-bounded}
 use Rattle.parser.proofs.rules.rule_priority.Goals as goal
 

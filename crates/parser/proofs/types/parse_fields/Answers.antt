@@ -1,5 +1,4 @@
-use Rattle.std.proofs.Common.{arith, sym, refl, ap, ◌∙◌, ◌+◌, ◌-◌}
-use Rattle.steps.proofs.ReadLaws.{◌▷◌, stop, exit, stepped, refused, unmoved, node_at, node_stopped, bare_read, bare_stopped, flagged_read, flagged_stopped, empty_node, nothing_read, next_yes, next_no, second_yes, second_no, bounded_went, plain_row}
+use Rattle.steps.proofs.ReadLaws.{next_yes, next_no}
 use Rattle.parser.specs.Types.{parse_struct_fields, parse_tuple_fields, parse_fields}
 use Rattle.steps.specs.Outcome.{many}
 use Rattle.parser.proofs.types.parse_fields.Goals as goal

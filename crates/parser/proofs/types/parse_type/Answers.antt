@@ -1,6 +1,6 @@
-use Rattle.std.proofs.Common.{arith, sym, refl, ap, ◌∙◌, ◌+◌, ◌-◌}
+use Rattle.std.proofs.Common.{◌+◌}
 use Rattle.tokens.specs.Input.{size}
-use Rattle.steps.proofs.ReadLaws.{◌▷◌, stop, exit, stepped, refused, unmoved, node_at, node_stopped, bare_read, bare_stopped, flagged_read, flagged_stopped, empty_node, nothing_read, next_yes, next_no, second_yes, second_no, bounded_went, plain_row}
+use Rattle.steps.proofs.ReadLaws.{◌▷◌, stop, exit, flagged_read, flagged_stopped}
 use Rattle.parser.specs.Types.{modifier_flags, parse_type}
 use Rattle.parser.proofs.ModifierLaws.{modifiers_then}
 use Rattle.parser.proofs.DeclLaws.{flags_behind}

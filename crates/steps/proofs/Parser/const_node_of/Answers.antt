@@ -1,7 +1,5 @@
 use Rattle.std.proofs.Common.{arith}
-use Rattle.trees.specs.KindNumber.{kind_number}
 use Rattle.trees.specs.Names.{without_first}
-use Rattle.tokens.specs.Ident.{ident_refusal}
 use Rattle.steps.specs.Outcome.{const_refusal, parse_const}
 use Rattle.steps.proofs.NameLaws.{const_told}
 use Rattle.steps.proofs.SizeLaws.{const_bounded, parent-bounded}

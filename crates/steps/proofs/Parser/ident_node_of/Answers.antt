@@ -1,9 +1,6 @@
 use Rattle.std.proofs.Common.{arith}
-use Rattle.trees.specs.KindNumber.{kind_number}
-use Rattle.trees.specs.Names.{without_first}
 use Rattle.tokens.specs.Ident.{ident_refusal}
-use Rattle.steps.specs.Outcome.{const_refusal, parse_ident}
-use Rattle.steps.proofs.NameLaws.{const_told}
+use Rattle.steps.specs.Outcome.{parse_ident}
 use Rattle.steps.proofs.SizeLaws.{ident-bounded, parent-bounded}
 use Rattle.steps.proofs.ReadLaws.{exit, node_of, node_stopped, by_name, next_begun, bounded_went}
 use Rattle.steps.proofs.Parser.ident_node_of.Goals as goal

@@ -1,5 +1,4 @@
 use Rattle.trees.specs.Names.{without_first}
-use Rattle.tokens.specs.Ident.{ident_refusal}
 use Rattle.steps.specs.Outcome.{const_refusal, parse_const}
 use Rattle.steps.proofs.NameLaws.{symbol_next, symbol_is}
 use Rattle.steps.proofs.SizeLaws.{const_bounded}

@@ -1,6 +1,5 @@
-use Rattle.trees.specs.Names.{without_first}
 use Rattle.tokens.specs.Ident.{ident_refusal}
-use Rattle.steps.specs.Outcome.{const_refusal, parse_ident}
+use Rattle.steps.specs.Outcome.{parse_ident}
 use Rattle.steps.proofs.NameLaws.{symbol_next, symbol_is}
 use Rattle.steps.proofs.SizeLaws.{ident-bounded}
 use Rattle.steps.proofs.ReadLaws.{by_name, by_other, bounded_went}

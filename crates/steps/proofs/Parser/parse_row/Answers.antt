@@ -1,4 +1,4 @@
-use Rattle.std.proofs.Common.{arith, sym, ◌∙◌}
+use Rattle.std.proofs.Common.{sym, ◌∙◌}
 use Rattle.steps.proofs.ReadLaws.{exit, turning_start, turning_on, turning_stop, turning_end}
 use Rattle.steps.proofs.Parser.parse_row.Goals as goal
 

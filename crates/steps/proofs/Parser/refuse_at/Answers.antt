@@ -1,4 +1,3 @@
-use Rattle.steps.specs.Read.{read_by}
 use Rattle.steps.proofs.StepLaws as steps
 use Rattle.steps.proofs.ReadLaws.{refused_here}
 use Rattle.steps.proofs.Parser.refuse_at.Goals as goal

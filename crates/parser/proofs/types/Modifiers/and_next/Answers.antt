@@ -1,6 +1,4 @@
-use Rattle.std.proofs.Common.{arith, sym, refl, ap, ◌∙◌, ◌+◌, ◌-◌}
 use Rattle.steps.specs.Read.{read_by}
-use Rattle.steps.proofs.ReadLaws.{◌▷◌, stop, exit, stepped, refused, unmoved, node_at, node_stopped, bare_read, bare_stopped, flagged_read, flagged_stopped, empty_node, nothing_read, next_yes, next_no, second_yes, second_no, bounded_went, plain_row}
 use Rattle.parser.proofs.ModifierLaws.{turned_extern, turned_nodebug, turned_none}
 use Rattle.parser.proofs.types.Modifiers.and_next.Goals as goal
 
