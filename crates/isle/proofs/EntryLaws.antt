@@ -1,6 +1,5 @@
 -- What the entries' answers are worth. Assumes nothing.
 use Prim.Native.Nat.{ℕ}
-use mathlib.Core.Path.{◌≡◌}
 use mathlib.Core.List.{List}
 use Rattle.tokens.specs.Input.{Input}
 use Rattle.parser.specs.Reading.{reading}
