@@ -41,7 +41,7 @@ pub fn sizes(text: usize, first: usize, second: usize) -> Result<(), Ground>
 
 // Whether one list is one pattern and another passes `judge`, which tells whether it is many trees of a sort, and neither is too long or ends
 // inside a record.
-fn check<F: FnOnce(&[u8], usize) -> bool>(
+pub fn check<F: FnOnce(&[u8], usize) -> bool>(
     text: &[u8],
     one: &[u8],
     many: &[u8],
