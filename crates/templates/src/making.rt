@@ -21,7 +21,7 @@ struct Making<'a> {
     text: &'a [u8],
     pattern: &'a [u8],
     params: &'a [u8],
-    ghost leaves: { Params params.now } by { Prim.hlevel leaves },
+    ghost idents: { Params params.now } by { Prim.hlevel leaves },
 }
 
 // The record at slot j, if there is one.
@@ -97,8 +97,8 @@ impl<'a> Making<'a> {
         None
     }
 
-    // Appends the template: of each record a copy, or a MacroArg for what stands for a parameter. Each way reads the record itself: of what a
-    // copy wants all of, a MacroArg wants little.
+    // Appends the template: of each record a copy, or a MacroArg for what stands for a parameter. Each way reads the record itself: of what
+    // a copy wants all of, a MacroArg wants little.
     fn append(&self, out: &mut Output) -> Result<(), Refused>
         requires few { slots self.now.pattern.now ≤ 65536 }
         requires within { out.old.written ≤ out.old.room }

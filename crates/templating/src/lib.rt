@@ -39,8 +39,8 @@ pub fn sizes(text: usize, first: usize, second: usize) -> Result<(), Ground>
     Ok(())
 }
 
-// Whether one list is one pattern and another passes `judge`, which tells whether it is many trees of a sort, and neither is too long or ends
-// inside a record.
+// Whether a text and two lists are what a call takes: none is too long, no list ends inside a record, the first is one pattern, and `judge`
+// takes the second, which tells whether it is any number of trees of one sort.
 pub fn check<F: FnOnce(&[u8], usize) -> bool>(
     text: &[u8],
     one: &[u8],
