@@ -30,8 +30,8 @@ use Rattle.records.specs.declared.Ground.{Ground}
 use Rattle.records.specs.Grounds as grounds
 use Rattle.judging.specs.declared.Flaw.{Flaw}
 use Rattle.opening.proofs.AnswerLaws.{space-slots}
-use Rattle.templating.specs.Calls.{sizes, lent}
-use Rattle.templating.proofs.CallLaws.{short, positive, lent-size, lent-first, lent-second, lent_right}
+use Rattle.templating.specs.Calls.{sizes, lent, fault}
+use Rattle.templating.proofs.CallLaws.{short, positive, fault-turned, lent-size, lent-first, lent-second, lent_right}
 use Rattle.openings.specs.Calls.{stopped, check, opening_of, number, zeros, filled, Left, kept, kept_by, Finished}
 
 -- ---- a refusal, and an acceptance
@@ -121,27 +121,10 @@ module _ (text defs p : List ℕ) where
   abbrev one : Bool
   one = is_one (length text) pattern (recs p)
 
-  pub first_short : 0 ≡ size → slots defs ≤ 65536
-  first_short e = (short (length text) (length defs) (length p) e).0
-
-  pub second_short : 0 ≡ size → slots p ≤ 65536
-  second_short e = (short (length text) (length defs) (length p) e).1
-
-  pub check_size : (g : Ground) → grounds.number g ≡ size → grounds.number g ≡ check text defs p
-  unfolding check
-  check_size g e = sym (lent-size (λ n. n) (grounds.number g) size 0 e many one (positive g))
-
-  pub check_first : (z : Bool) → 0 ≡ size → z ≡ many → z ≡ false → 3 ≡ check text defs p
-  unfolding check
-  check_first z e f g = sym (lent-first (λ n. n) 0 size 0 e many one z refl f g)
-
-  pub check_second : (z w : Bool) → 0 ≡ size → z ≡ many → z ≡ true → w ≡ one → w ≡ false → 3 ≡ check text defs p
-  unfolding check
-  check_second z w e f g i j = sym (lent-second (λ n. n) 0 size 0 e many one z w refl f g i j)
-
-  pub check_right : (z w : Bool) → 0 ≡ size → z ≡ many → z ≡ true → w ≡ one → w ≡ true → 0 ≡ check text defs p
-  unfolding check
-  check_right z w e f g i j = sym (lent_right (λ n. n) 0 size 0 e many one z w refl f g i j)
+  -- the two lists in the other order have the same number
+  pub turned : (n : ℕ) → n ≡ fault (sizes (length text) (length p) (length defs)) one many → n ≡ check text defs p
+  unfolding check fault
+  turned n e = e ∙ fault-turned (length text) (length p) (length defs) one many
 
   -- what the number of the check says
   stopped-by : (n k : ℕ) (x y : Bool) (c : Outcome) → k ≡ lent (λ m. m) n x y 0 → (k ≡ 0 → ⊥) → lent stopped n x y c ≡ stopped k

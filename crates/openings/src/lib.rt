@@ -12,14 +12,13 @@ ghost use Rattle.opening.specs.Lent.{held, SameLent};
 ghost use Rattle.templating.specs.Calls.{refusal as refusal_number};
 ghost use Rattle.openings.specs.Calls.{check, opening_of, Left, Finished};
 
-use forms::judge::{definitions, one_pattern};
+use forms::judge::definitions;
 use grounds::Counts;
 use judging::Flaw;
 use judging::lent::{Definitions, Pattern};
 use opening::lent::Outputs;
 use opening::whole::open_into;
 use records::{Ground, accepted, refused_on, slots};
-use templating::sizes;
 use words::{clear, clear_from};
 
 // A refusal, and outputs of zeros.
@@ -111,11 +110,7 @@ fn open_judged(text: &[u8], defs: &Definitions, pattern: &Pattern, outputs: &mut
 fn check(text: &[u8], defs: &[u8], pattern: &[u8]) -> Result<(), Ground>
     ensures { refusal_number result ≡ check text.now defs.now pattern.now }
 {
-    sizes(text.len(), defs.len(), pattern.len())?;
-    if !definitions(defs, text.len()) || !one_pattern(pattern, text.len()) {
-        return Err(Ground::MalformedList);
-    }
-    Ok(())
+    templating::check(text, pattern, defs, definitions)
 }
 
 // Any lent lists, any text, any store, any output.

@@ -91,6 +91,8 @@ impl<'a> Patterns<'a> {
 }
 
 // The template with the patterns in it, by a lent table for their starts.
+// Kept: of a template and its patterns together only this function and the next ask `SubstituteReady`. A struct with that as a ghost field
+// would take two lines of premise away, and add to specs/ the proofs that its lists of conditions have one proof at most.
 fn substitute_by(template: &[u8], patterns: &[u8], starts: &mut [u32], out: &mut [u8]) -> Answer
     requires ready { SubstituteReady template.now patterns.now }
     requires room { slots patterns.now ≤ length starts.old }

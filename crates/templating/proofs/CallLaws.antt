@@ -13,6 +13,7 @@ use Rattle.records.specs.Result.{refused}
 use Rattle.forms.specs.Kinds.{name, pattern}
 use Rattle.forms.specs.Forms.{is_one, is_many}
 use Rattle.grounds.proofs.Places.{fits-placed, fits-args, fits-names}
+use Rattle.trees.specs.Choice.{pick}
 use Rattle.records.specs.declared.Ground.{Ground}
 use Rattle.records.specs.declared.Ground.TheVariants.{PartOfARecord, BadToken, MalformedList, MacroArg, MacroArgIndex, NoSpace, TooMuch, TooDeep, UnexpectedToken, UnexpectedEnd, UnknownDefinition, EmptyIdentifier, FirstCharacter, LaterCharacter, NotAConstant, UnknownPragma, TypeModifier, TypeDefinition, Attribute, VerificationAttribute, Extern, RuleName, Priority, Pattern, Expression, UncoveredWord, ExtractorName, ArgumentCount, CallOrder, TooManyExtractors, NotAToken, NotAscii}
 use Rattle.records.specs.Grounds as grounds
@@ -131,6 +132,32 @@ module _ (n k : ℕ) (e : n ≡ k) where
   pub faultless : (a b x z : Bool) → n ≡ 0 → x ≡ a → x ≡ true → z ≡ b → z ≡ true → 0 ≡ fault k a b
   unfolding fault
   faultless a b x z h f g i j = sym (lent_right (λ i. i) n k 0 e a b x z h f g i j)
+
+-- the two lists in the other order have the same number
+sizes-by : (a b c d e : Bool) → ◌≡◌ {A = ℕ} (pick a 7 (pick b 7 (pick c 7 (pick d (pick e 0 1) 1)))) (pick a 7 (pick c 7 (pick b 7 (pick e (pick d 0 1) 1))))
+sizes-by true b c d e = refl
+sizes-by false true true d e = refl
+sizes-by false true false d e = refl
+sizes-by false false true d e = refl
+sizes-by false false false true true = refl
+sizes-by false false false true false = refl
+sizes-by false false false false true = refl
+sizes-by false false false false false = refl
+
+lent-by : (n : ℕ) (s a b : Bool) → pick s (pick a (pick b 0 3) 3) n ≡ pick s (pick b (pick a 0 3) 3) n
+lent-by n false a b = refl
+lent-by n true true true = refl
+lent-by n true true false = refl
+lent-by n true false true = refl
+lent-by n true false false = refl
+
+pub sizes-turned : (text first second : ℕ) → sizes text first second ≡ sizes text second first
+unfolding sizes
+sizes-turned text first second = sizes-by (ltb 65536 text) (ltb 65536 (first / 24)) (ltb 65536 (second / 24)) (eqb (first % 24) 0) (eqb (second % 24) 0)
+
+pub fault-turned : (text first second : ℕ) (a b : Bool) → fault (sizes text first second) a b ≡ fault (sizes text second first) b a
+unfolding fault lent
+fault-turned text first second a b = rw (sizes-turned text first second) (lent-by (sizes text second first) (eqb (sizes text second first) 0) a b)
 
 -- two lists with no refusal
 record Right (n : ℕ) (a b : Bool) : Type 0 where

@@ -1,10 +1,10 @@
 // Making a template and substituting for lent lists: the checks 7, 1 and 3, the work, and what the output then holds.
 #![tactic(auto)]
 
-ghost use Rattle.std.specs.Prelude.{◌≡◌, ℕ, length};
-ghost use Rattle.records.specs.Slots.{recs};
+ghost use Rattle.std.specs.Prelude.{◌≡◌, ◌≤◌, ℕ, Bool, length};
+ghost use Rattle.records.specs.Slots.{slots, recs};
 ghost use Rattle.records.specs.Grounds.{number};
-ghost use Rattle.forms.specs.Kinds.{name, pattern as form_of_a_pattern};
+ghost use Rattle.forms.specs.Kinds.{pattern as form_of_a_pattern};
 ghost use Rattle.forms.specs.Forms.{is_one, is_many};
 ghost use Rattle.templating.specs.Calls.{Ended, stopped, refusal, sizes, fault, making, substituting};
 
@@ -39,12 +39,21 @@ pub fn sizes(text: usize, first: usize, second: usize) -> Result<(), Ground>
     Ok(())
 }
 
-// Whether a pattern and its parameters are such lists.
-fn check_pattern(text: &[u8], pattern: &[u8], params: &[u8]) -> Result<(), Ground>
-    ensures { refusal result ≡ fault (sizes (length text.now) (length pattern.now) (length params.now)) (is_one (length text.now) form_of_a_pattern (recs pattern.now)) (is_many (length text.now) name (recs params.now)) }
+// Whether a text and two lists are what a call takes: none is too long, no list ends inside a record, the first is one pattern, and `judge`
+// takes the second, which tells whether it is any number of trees of one sort.
+pub fn check<F: FnOnce(&[u8], usize) -> bool>(
+    text: &[u8],
+    one: &[u8],
+    many: &[u8],
+    judge: F,
+) -> Result<(), Ground>
+    ghost sort: { ℕ }
+    requires callable { slots many.now ≤ 65536 → F.pre judge many (length text.now) }
+    requires tells { (r : Bool) → F.post judge many (length text.now) r → r ≡ is_many (length text.now) sort (recs many.now) }
+    ensures { refusal result ≡ fault (sizes (length text.now) (length one.now) (length many.now)) (is_one (length text.now) form_of_a_pattern (recs one.now)) (is_many (length text.now) sort (recs many.now)) }
 {
-    sizes(text.len(), pattern.len(), params.len())?;
-    if !one_pattern(pattern, text.len()) || !idents(params, text.len()) {
+    sizes(text.len(), one.len(), many.len())?;
+    if !one_pattern(one, text.len()) || !judge(many, text.len()) {
         return Err(Ground::MalformedList);
     }
     Ok(())
@@ -54,29 +63,18 @@ fn check_pattern(text: &[u8], pattern: &[u8], params: &[u8]) -> Result<(), Groun
 pub fn make(text: &[u8], pattern: &[u8], params: &[u8], out: &mut [u8]) -> u64
     ensures { Ended (making text.now pattern.now params.now out.old) (length out.old) out.new result }
 {
-    if let Err(reason) = check_pattern(text, pattern, params) {
+    if let Err(reason) = check(text, pattern, params, idents) {
         return refuse(out, reason);
     }
     let answer = make_template(text, pattern, params, out);
     finish(out, answer)
 }
 
-// Whether a template and its patterns are such lists.
-fn check_template(text: &[u8], template: &[u8], patterns: &[u8]) -> Result<(), Ground>
-    ensures { refusal result ≡ fault (sizes (length text.now) (length template.now) (length patterns.now)) (is_one (length text.now) form_of_a_pattern (recs template.now)) (is_many (length text.now) form_of_a_pattern (recs patterns.now)) }
-{
-    sizes(text.len(), template.len(), patterns.len())?;
-    if !one_pattern(template, text.len()) || !many_patterns(patterns, text.len()) {
-        return Err(Ground::MalformedList);
-    }
-    Ok(())
-}
-
 // The pattern of any lent list by any other.
 pub fn fill(text: &[u8], template: &[u8], patterns: &[u8], out: &mut [u8]) -> u64
     ensures { Ended (substituting text.now template.now patterns.now out.old) (length out.old) out.new result }
 {
-    if let Err(reason) = check_template(text, template, patterns) {
+    if let Err(reason) = check(text, template, patterns, many_patterns) {
         return refuse(out, reason);
     }
     let answer = substitute(template, patterns, out);

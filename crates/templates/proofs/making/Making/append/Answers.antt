@@ -2,7 +2,7 @@ use Rattle.templates.proofs.MakeLaws.{copy_turn, copy_stop, arg_turn, arg_stop, 
 use Rattle.templates.proofs.WriteLaws.{reaches_start, wrote_within}
 use Rattle.std.proofs.Common.{rules, arith}
 use Rattle.std.proofs.lemmas.Result.{err_from_is_err_and}
-use Rattle.templates.proofs.making.make.Goals as goal
+use Rattle.templates.proofs.making.Making.append.Goals as goal
 
 pub loop-i-init : goal.loop-i-init
 loop-i-init c = (search reaches_start, search rules)

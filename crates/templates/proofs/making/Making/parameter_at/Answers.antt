@@ -1,8 +1,8 @@
 use Rattle.std.proofs.Common.{◌∙◌, sym}
 use borrow.Author.Tests.{eqb-true}
 use Rattle.templates.proofs.MakeLaws.{parameter_var, parameter_other, parameter_bind, parameter_kept}
-use Rattle.templates.proofs.making.parameter_at.Goals.{then-r-via-then-r, then-r-via-else-r+then-wildcard_at, then-r-2, else-r-2}
-use Rattle.templates.proofs.making.parameter_at.Goals as goal
+use Rattle.templates.proofs.making.Making.parameter_at.Goals.{then-r-via-then-r, then-r-via-else-r+then-wildcard_at, then-r-2, else-r-2}
+use Rattle.templates.proofs.making.Making.parameter_at.Goals as goal
 
 pub returns-then-r : goal.returns-then-r
 returns-then-r c =
