@@ -12,7 +12,6 @@ ghost use Rattle.texts.specs.Checked.{parse_checked, Checked};
 ghost use Rattle.texts.specs.TextReading.{first_high, foremost, looked_ahead, parse_text, text_reading};
 
 use lexer::gaps::run_end;
-use lexer::text::lex;
 use reading::finish;
 use records::Ground;
 use steps::{Source, State, Stop};
@@ -68,27 +67,25 @@ fn parse_lexed(s: &Source, out: &mut [u8]) -> Result<State, Stop>
 }
 
 // Those of a text within the limit, with a table that has space for its tokens and for what stops the lexer.
-fn parse_within(text: &[u8], table: &mut [u8], out: &mut [u8]) -> Result<State, Stop>
-    requires short { length text.now ≤ 65536 }
-    requires room { length (lexed text.now) ≤ slots table.old }
-    ensures reads { Met (parse_text text.now) 0 0 out.old out.new result }
+fn parse_within(text: &lexer::Source, table: &mut [u8], out: &mut [u8]) -> Result<State, Stop>
+    requires { length (lexed text.now.bytes.now) ≤ slots table.old }
+    ensures reads { Met (parse_text text.now.bytes.now) 0 0 out.old out.new result }
     ensures countable { Countable result }
 {
-    let n = lex(text, table);
+    let n = text.lex(table);
     let s = Source {
         tokens: &table[..n * Token::WIDTH],
-        text,
-        end: text.len() as u32,
+        text: text.bytes,
+        end: text.bytes.len() as u32,
     };
     parse_lexed(&s, out)
 }
 
 // The same with a table of N bytes.
-fn parse_with<const N: usize>(text: &[u8], out: &mut [u8]) -> Result<State, Stop>
-    requires short { length text.now ≤ 65536 }
-    requires room { length (lexed text.now) ≤ N / 24 }
+fn parse_with<const N: usize>(text: &lexer::Source, out: &mut [u8]) -> Result<State, Stop>
+    requires room { length (lexed text.now.bytes.now) ≤ N / 24 }
     requires small { N < 9223372036854775808 }
-    ensures reads { Met (parse_text text.now) 0 0 out.old out.new result }
+    ensures reads { Met (parse_text text.now.bytes.now) 0 0 out.old out.new result }
     ensures countable { Countable result }
 {
     let mut table = [0u8; N];
@@ -97,18 +94,17 @@ fn parse_with<const N: usize>(text: &[u8], out: &mut [u8]) -> Result<State, Stop
 
 // The table by the text's length. The tables are for texts of up to 256, 1,024 and 4,096 bytes, which have no more tokens than bytes, and
 // for 16,385 tokens: a table is zero at first, and a short text does not wait for a long one's.
-fn parse_plain(text: &[u8], out: &mut [u8]) -> Result<State, Stop>
-    requires { length text.now ≤ 65536 }
-    ensures reads { Met (parse_text text.now) 0 0 out.old out.new result }
+fn parse_plain(text: &lexer::Source, out: &mut [u8]) -> Result<State, Stop>
+    ensures reads { Met (parse_text text.now.bytes.now) 0 0 out.old out.new result }
     ensures countable { Countable result }
 {
-    if text.len() <= 256 {
+    if text.bytes.len() <= 256 {
         return parse_with::<6144>(text, out);
     }
-    if text.len() <= 1024 {
+    if text.bytes.len() <= 1024 {
         return parse_with::<24576>(text, out);
     }
-    if text.len() <= 4096 {
+    if text.bytes.len() <= 4096 {
         return parse_with::<98304>(text, out);
     }
     parse_with::<393240>(text, out)
@@ -134,7 +130,7 @@ fn parse(text: &[u8], out: &mut [u8]) -> Result<State, Stop>
     ensures countable { Countable result }
 {
     check(text)?;
-    parse_plain(text, out)
+    parse_plain(&lexer::Source { bytes: text }, out)
 }
 
 // Any text, any output.

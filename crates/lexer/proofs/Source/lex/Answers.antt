@@ -1,5 +1,5 @@
 use Rattle.lexer.proofs.TextLaws.{lex_many, lex_again, lex_refused, lex_none}
-use Rattle.lexer.proofs.text.lex.Goals as goal
+use Rattle.lexer.proofs.Source.lex.Goals as goal
 
 pub returns-then-n-eq16384 : goal.returns-then-n-eq16384
 returns-then-n-eq16384 c = search lex_many

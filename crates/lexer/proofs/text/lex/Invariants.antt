@@ -1,5 +1,0 @@
-use Rattle.lexer.proofs.TextLaws.{Lexing}
-use Rattle.lexer.proofs.text.lex.Given as goal
-
-abbrev pub invariant-loop-n : goal.invariant-loop-n
-invariant-loop-n l = Lexing l.text l.initial.out l.out l.i l.n
