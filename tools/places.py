@@ -108,6 +108,23 @@ def proof_lines():
 
 LENT = r"\b(\w+): &(?:'\w+ )?(?:mut )?\[\w+\],\s*(?:n|m|o|top|depth|len|at|used|count|d): (?:usize|u32)"
 
+# Functions that compare, convert, copy or print by hand, as a reading found them.
+BY_HAND = {
+    "words": "word half put_half wide",
+    "tokens": "greater within equals least lower mask first_byte",
+    "names": "agreed agreed_after agreed_by agreed_long apart below block same_long choice wide",
+    "forms": "less some reach",
+    "judging": "less",
+    "lexer": "bit byte_at product negated_upper",
+    "steps": "again",
+    "opening": "wide",
+    "openings": "greater",
+    "judge_lists": "one_if wide write_field",
+    "replay": "byte_or_zero number number_of_first write",
+    "sheet": "least begin end_line limited print print_next",
+    "templates": "settle space_for",
+}
+
 PLACES = {
     "1 enums": lines(r"^\s*(?:pub )?enum \w+"),
     "1 constants-u8": lines(r"const \w+: u8 ="),
@@ -117,15 +134,13 @@ PLACES = {
     "1 literal-kinds": lines(r"\bkind(?:\(\))? (?:==|!=|>|<|>=|<=) \d+|\bkind: \d+"),
     "1 options-and-results": heads(lambda f: re.search(r"\b(?:Option|Result)\b", f[2])),
     "2 twins": twins(),
-    "2 type-parameters": heads(lambda f: False) or lines(r"\bfn \w+<(?!')"),
+    "2 type-parameters": lines(r"\bfn \w+<(?!')"),
     "2 traits-and-impls": lines(r"^\s*(?:pub )?(?:trait \w+|impl\b.* for )"),
     "3 while": lines(r"\bwhile\b"),
     "3 for": lines(r"^\s*for \w|^\s*for \("),
     "3 chains": lines(r"\.(?:iter|rev|position|any|all|sum|fold)\("),
     "4 derives": lines(r"derive\("),
-    "4 by-hand": heads(lambda f: re.fullmatch(
-        r"again\w*|same\w*|same_to|differ\w*|put_byte|byte_at|halves?\w*|low_\w+|high_\w+|copy\w*|move_\w+|clear\w*|zeros?\w*|prefill|print_(?:digit|decimal|number|line|word)s?\w*|be\d?|half\w*|word|put_word|or_\w+|and_\w+|less\w*|max_\w+|min_\w+", f[0])
-        and ("while" in f[4] or "for " in f[4] or f[4].count("==") > 3 or f[4].count("[") > 3 or "let mut" in f[4] or f[0].startswith("again"))),
+    "4 by-hand": [f"{p} {f[0]}" for p, f in ALL if f[0] in BY_HAND.get(p.split("/")[1], "").split()],
     "4 display-and-from": lines(r"impl .*\b(?:Display|From<|TryFrom<)"),
     "5 premises-in-three": repeated("requires"),
     "5 parameters-in-three": travelling(),
