@@ -21,7 +21,8 @@ impl Part for IfLet {
         let node = p.begin();
         parse_pattern(p, 64)?;
         parse_expr(p, 64)?;
-        Ok(p.close_at(node, Kind::IfLet, 0))
+        p.close_at(node, Kind::IfLet, 0);
+        Ok(())
     }
 }
 
@@ -36,7 +37,8 @@ impl Part for If {
         let wildcard = p.begin();
         p.close_at(wildcard, Kind::PatternWildcard, 0);
         parse_expr(p, 64)?;
-        Ok(p.close_at(node, Kind::IfLet, 0))
+        p.close_at(node, Kind::IfLet, 0);
+        Ok(())
     }
 }
 

@@ -34,16 +34,19 @@ pub fn parse_expr(p: &mut Parser, depth: usize) -> Result<(), Stop>
         return p.const_node_of(Kind::ExprConstPrim, t);
     }
     if t.is_word(p.source.text, b"true") {
-        return Ok(p.leaf_of(Kind::ExprConstBool, 1, t));
+        p.leaf_of(Kind::ExprConstBool, 1, t);
+        return Ok(());
     }
     if t.is_word(p.source.text, b"false") {
-        return Ok(p.leaf_of(Kind::ExprConstBool, 0, t));
+        p.leaf_of(Kind::ExprConstBool, 0, t);
+        return Ok(());
     }
     if t.is_symbol() {
         return p.ident_node_of(Kind::ExprVar, t);
     }
     if t.is_int() {
-        return Ok(p.int_of(Kind::ExprConstInt, t));
+        p.int_of(Kind::ExprConstInt, t);
+        return Ok(());
     }
     p.refuse_at(Ground::Expression)
 }
@@ -64,7 +67,8 @@ fn parse_expr_inner_parens(p: &mut Parser, depth: usize, t: Token) -> Result<(),
     p.parse_ident()?;
     parse_exprs(p, depth)?;
     p.expect_rparen()?;
-    Ok(p.close_of(node, Kind::ExprTerm, 0, t))
+    p.close_of(node, Kind::ExprTerm, 0, t);
+    Ok(())
 }
 
 // `(let ..)`
@@ -78,7 +82,8 @@ fn parse_let_parens(p: &mut Parser, depth: usize, t: Token) -> Result<(), Stop>
     let node = p.begin();
     p.expect_lparen_of(t)?;
     parse_let(p, depth)?;
-    Ok(p.close_of(node, Kind::ExprLet, 0, t))
+    p.close_of(node, Kind::ExprLet, 0, t);
+    Ok(())
 }
 
 // The inside of a let: `let (definitions) body)`.
@@ -109,7 +114,8 @@ fn parse_letdef(p: &mut Parser, depth: usize) -> Result<(), Stop>
     p.parse_ident()?;
     parse_expr(p, depth)?;
     p.expect_rparen()?;
-    Ok(p.close_at(node, Kind::LetDef, 0))
+    p.close_at(node, Kind::LetDef, 0);
+    Ok(())
 }
 
 // Let definitions up to a `)`, which is left.

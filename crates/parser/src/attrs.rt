@@ -22,7 +22,8 @@ fn word_kind(p: &mut Parser, kind: Kind, w: &[u8]) -> Result<(), Stop>
 {
     let node = p.begin();
     p.expect_word(w)?;
-    Ok(p.close_bare(node, kind))
+    p.close_bare(node, kind);
+    Ok(())
 }
 
 fn parse_attr_kind_veri(p: &mut Parser) -> Result<(), Stop>
@@ -60,7 +61,8 @@ impl Part for Tag {
     fn parse(p: &mut Parser) -> Result<(), Stop> {
         let node = p.begin();
         p.parse_ident()?;
-        Ok(p.close_bare(node, Kind::AttrKindTag))
+        p.close_bare(node, Kind::AttrKindTag);
+        Ok(())
     }
 }
 
@@ -115,5 +117,6 @@ pub fn parse_attr(p: &mut Parser) -> Result<(), Stop>
     let rule = p.eat(b"rule");
     p.parse_ident()?;
     attr_kind_row(p)?;
-    Ok(p.close_at(node, Kind::Attr, u8::from(rule)))
+    p.close_at(node, Kind::Attr, u8::from(rule));
+    Ok(())
 }

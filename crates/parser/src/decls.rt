@@ -34,7 +34,8 @@ pub fn parse_decl(p: &mut Parser) -> Result<(), Stop>
     let node = p.begin();
     let flags = decl_modifiers(p);
     decl_names(p)?;
-    Ok(p.close_at(node, Kind::Decl, flags))
+    p.close_at(node, Kind::Decl, flags);
+    Ok(())
 }
 
 // The names of a declaration: the term, its argument types, its result.
@@ -60,7 +61,8 @@ fn extern_constructor(p: &mut Parser) -> Result<(), Stop>
     p.expect_word(b"constructor")?;
     p.parse_ident()?;
     p.parse_ident()?;
-    Ok(p.close_at(node, Kind::ExternConstructor, 0))
+    p.close_at(node, Kind::ExternConstructor, 0);
+    Ok(())
 }
 
 // `extractor infallible term func`, infallible or not
@@ -74,7 +76,8 @@ fn extern_extractor(p: &mut Parser) -> Result<(), Stop>
     let infallible = p.eat(b"infallible");
     p.parse_ident()?;
     p.parse_ident()?;
-    Ok(p.close_at(node, Kind::ExternExtractor, u8::from(infallible)))
+    p.close_at(node, Kind::ExternExtractor, u8::from(infallible));
+    Ok(())
 }
 
 // A constant's name and type.
@@ -86,7 +89,8 @@ fn extern_const(p: &mut Parser) -> Result<(), Stop>
     let node = p.begin();
     p.parse_const()?;
     p.parse_ident()?;
-    Ok(p.close_at(node, Kind::ExternConst, 0))
+    p.close_at(node, Kind::ExternConst, 0);
+    Ok(())
 }
 
 // After `extern`.
@@ -118,7 +122,8 @@ pub fn parse_etor(p: &mut Parser) -> Result<(), Stop>
     let node = p.begin();
     etor_head(p)?;
     parse_pattern(p, 64)?;
-    Ok(p.close_at(node, Kind::Extractor, 0))
+    p.close_at(node, Kind::Extractor, 0);
+    Ok(())
 }
 
 // `(term parameters)`
@@ -143,7 +148,8 @@ pub fn parse_converter(p: &mut Parser) -> Result<(), Stop>
     p.parse_ident()?;
     p.parse_ident()?;
     p.parse_ident()?;
-    Ok(p.close_at(node, Kind::Converter, 0))
+    p.close_at(node, Kind::Converter, 0);
+    Ok(())
 }
 
 // After `pragma`: a name, and no pragma is known.

@@ -53,10 +53,11 @@ fn rule_priority(p: &mut Parser, place: u32) -> Result<(), Stop>
             taken: after(p.source.tokens, p.state.next),
         });
     }
-    Ok(p.put_leaf(Head {
+    p.put_leaf(Head {
         word1: t.word2,
         ..Head::plain(Kind::Priority, 0, 0)
-    }))
+    });
+    Ok(())
 }
 
 // 1 named, 2 has priority.
@@ -103,5 +104,6 @@ pub fn parse_rule(p: &mut Parser) -> Result<(), Stop>
     let place = p.next_pos();
     let node = p.begin();
     rule_parts(p, place)?;
-    Ok(p.close_at(node, Kind::Rule, flags))
+    p.close_at(node, Kind::Rule, flags);
+    Ok(())
 }

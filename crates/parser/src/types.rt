@@ -27,7 +27,8 @@ fn parse_struct_field(p: &mut Parser) -> Result<(), Stop>
     p.parse_ident()?;
     p.parse_ident()?;
     p.expect_rparen()?;
-    Ok(p.close_at(node, Kind::StructField, 0))
+    p.close_at(node, Kind::StructField, 0);
+    Ok(())
 }
 
 // A field with a name, in the row of a struct's fields.
@@ -59,7 +60,8 @@ fn parse_tuple_field(p: &mut Parser) -> Result<(), Stop>
         word1: node.items as u64,
         ..Head::plain(Kind::TupleField, 0, p.pos_at(node.next))
     };
-    Ok(p.close(node, h))
+    p.close(node, h);
+    Ok(())
 }
 
 // A field without a name, in the row of a tuple's fields.
@@ -87,7 +89,8 @@ fn fields<I: Item>(p: &mut Parser, kind: Kind) -> Result<(), Stop>
 {
     let node = p.begin();
     p.parse_row::<I>()?;
-    Ok(p.close_at(node, kind, 0))
+    p.close_at(node, kind, 0);
+    Ok(())
 }
 
 // No fields, which take no token.
@@ -107,7 +110,8 @@ fn parse_fields(p: &mut Parser) -> Result<(), Stop>
 {
     let t = p.next_token();
     if t.is_rparen() {
-        return Ok(unit_fields(p));
+        unit_fields(p);
+        return Ok(());
     }
     if t.is_lparen() {
         return fields::<StructField>(p, Kind::FieldsStruct);
@@ -126,7 +130,8 @@ fn variant_parens(p: &mut Parser) -> Result<(), Stop>
     p.parse_ident()?;
     parse_fields(p)?;
     p.expect_rparen()?;
-    Ok(p.close_at(node, Kind::Variant, 0))
+    p.close_at(node, Kind::Variant, 0);
+    Ok(())
 }
 
 fn variant_unit(p: &mut Parser) -> Result<(), Stop>
@@ -137,7 +142,8 @@ fn variant_unit(p: &mut Parser) -> Result<(), Stop>
     let node = p.begin();
     p.parse_ident()?;
     unit_fields(p);
-    Ok(p.close_at(node, Kind::Variant, 0))
+    p.close_at(node, Kind::Variant, 0);
+    Ok(())
 }
 
 fn parse_type_variant(p: &mut Parser) -> Result<(), Stop>
@@ -208,7 +214,8 @@ fn value<P: Part>(p: &mut Parser, kind: Kind, w: &[u8], u: Token) -> Result<(), 
 {
     let node = p.begin();
     p.parse_worded::<P>(w, u)?;
-    Ok(p.close_at(node, kind, 0))
+    p.close_at(node, kind, 0);
+    Ok(())
 }
 
 fn parse_typevalue(p: &mut Parser) -> Result<(), Stop>
@@ -307,5 +314,6 @@ pub fn parse_type(p: &mut Parser) -> Result<(), Stop>
     let flags = pass_modifiers(p);
     no_modifier(p)?;
     parse_typevalue(p)?;
-    Ok(p.close_at(node, Kind::TypeDef, flags))
+    p.close_at(node, Kind::TypeDef, flags);
+    Ok(())
 }

@@ -27,19 +27,23 @@ pub fn parse_pattern(p: &mut Parser, depth: usize) -> Result<(), Stop>
     }
     let t = p.next_token();
     if t.is_int() {
-        return Ok(p.int_of(Kind::PatternConstInt, t));
+        p.int_of(Kind::PatternConstInt, t);
+        return Ok(());
     }
     if t.is_const(p.source.text) {
         return p.const_node_of(Kind::PatternConstPrim, t);
     }
     if t.is_word(p.source.text, b"_") {
-        return Ok(p.leaf_of(Kind::PatternWildcard, 0, t));
+        p.leaf_of(Kind::PatternWildcard, 0, t);
+        return Ok(());
     }
     if t.is_word(p.source.text, b"true") {
-        return Ok(p.leaf_of(Kind::PatternConstBool, 1, t));
+        p.leaf_of(Kind::PatternConstBool, 1, t);
+        return Ok(());
     }
     if t.is_word(p.source.text, b"false") {
-        return Ok(p.leaf_of(Kind::PatternConstBool, 0, t));
+        p.leaf_of(Kind::PatternConstBool, 0, t);
+        return Ok(());
     }
     parse_compound(p, depth - 1, t)
 }
@@ -80,7 +84,8 @@ fn parse_bind(p: &mut Parser, depth: usize, t: Token) -> Result<(), Stop>
     p.parse_ident()?;
     p.expect_at()?;
     parse_pattern(p, depth)?;
-    Ok(p.close_of(node, Kind::PatternBind, 0, t))
+    p.close_of(node, Kind::PatternBind, 0, t);
+    Ok(())
 }
 
 // `(and ..)`
@@ -96,7 +101,8 @@ fn parse_and(p: &mut Parser, depth: usize, t: Token) -> Result<(), Stop>
     p.expect_word(b"and")?;
     parse_patterns(p, depth)?;
     p.expect_rparen()?;
-    Ok(p.close_of(node, Kind::PatternAnd, 0, t))
+    p.close_of(node, Kind::PatternAnd, 0, t);
+    Ok(())
 }
 
 // `(term ..)`
@@ -112,7 +118,8 @@ fn parse_term(p: &mut Parser, depth: usize, t: Token) -> Result<(), Stop>
     p.parse_ident()?;
     parse_patterns(p, depth)?;
     p.expect_rparen()?;
-    Ok(p.close_of(node, Kind::PatternTerm, 0, t))
+    p.close_of(node, Kind::PatternTerm, 0, t);
+    Ok(())
 }
 
 // Patterns up to a `)`, which is left.
