@@ -123,12 +123,6 @@ run_more a b c x n p v h k l e q =
     let g : suc (p - 1) ≡ p = omega arith in
     rw (f, g, ← e) (pushed_both a b c _ _ h q)
 
-pub run_end : (a b : Stack) (x n p : ℕ) → Pushed a b (run x p (n - p)) → p ≤ 0 → Pushed a b (run x 0 n)
-run_end a b x n p h k =
-    let e : p ≡ 0 = omega arith in
-    let f : n - p ≡ n = omega arith in
-    rw (f, e) at h
-
 length-zero : (l : List ℕ) → length l ≡ 0 → [] ≡ l
 length-zero [] e = refl
 length-zero (x ∷ l) e = absurd (omega arith)

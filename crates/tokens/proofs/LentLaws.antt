@@ -140,9 +140,6 @@ module _ (tokens text : List ℕ) (end i : ℕ) (q : first_bad tokens text end �
   unfolding bad_from
   bad-none h = let e : token_count tokens - i ≡ 0 = omega arith in sym h ∙ sym (q ∙ rw e)
 
-pub bad-start : (tokens text : List ℕ) (end : ℕ) → first_bad tokens text end ≡ bad_from tokens text end (token_count tokens - 0) 0
-bad-start tokens text end = let e : token_count tokens - 0 ≡ token_count tokens = omega arith in rw e
-
 -- what is known of tokens of which none is bad
 pub bad-above : (tokens text : List ℕ) (end n i : ℕ) → i ≤ bad_from tokens text end n i
 unfolding bad_from

@@ -1,4 +1,3 @@
 pub mod TokenLaws
 pub mod NameLaws
 pub mod LentLaws
-mod PassLaws

@@ -1,10 +1,7 @@
 use Rattle.steps.specs.Met.{seen}
-use Rattle.reading.proofs.ReadLaws.{begins, good_countable}
+use Rattle.reading.proofs.ReadLaws.{good_countable}
 use Rattle.texts.proofs.ReadLaws.{lexed_read, lexed_refused, refused_countable}
 use Rattle.texts.proofs.parse_lexed.Goals as goal
-
-pub parse-requires : goal.parse-requires
-parse-requires c = begins (seen c.args.s.now) c.requires.few c.requires.short
 
 pub returns-in-Ok-clause-reads : goal.returns-in-Ok-clause-reads
 returns-in-Ok-clause-reads c = lexed_read (seen c.args.s.now) _ _ _ c.in-Ok.ensures.reads

@@ -1,9 +1,6 @@
 use borrow.Author.Rules.{rules}
-use Rattle.tokens.proofs.LentLaws.{bad-start, bad-on, bad-found, bad-none}
+use Rattle.tokens.proofs.LentLaws.{bad-on, bad-found, bad-none}
 use Rattle.tokens.proofs.lent.first_bad.Goals as goal
-
-pub loop-i-init : goal.loop-i-init
-loop-i-init c = search bad-start
 
 pub returns-then-not-is_good-clause-first : goal.returns-then-not-is_good-clause-first
 returns-then-not-is_good-clause-first c = search bad-found
