@@ -5,6 +5,7 @@ ghost use Rattle.words.specs.Bytes.{same_bytes};
 ghost use Rattle.names.specs.Compare.{before};
 
 use tokens::names::spelling;
+use words::same;
 
 // Whether a comes before b: the shorter, or of one length the lower by bytes.
 #[tactic(auto, using(crate::proofs::CompareLaws::before_shorter, crate::proofs::CompareLaws::before_longer, crate::proofs::CompareLaws::before_equal))]
@@ -12,14 +13,6 @@ fn before(a: &[u8], b: &[u8]) -> bool
     ensures { result ≡ before a.now b.now }
 {
     a.len().cmp(&b.len()).then_with(|| a.cmp(&b)).is_lt()
-}
-
-// Whether two names are the same.
-#[tactic(auto, using(crate::proofs::CompareLaws::same_pointwise))]
-pub fn same(a: &[u8], b: &[u8]) -> bool
-    ensures { result ≡ same_bytes a.now b.now }
-{
-    a == b
 }
 
 // Whether the names at two ranges are the same. Of equal ranges no byte is looked at.

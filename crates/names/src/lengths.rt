@@ -4,13 +4,8 @@ ghost use Rattle.records.specs.Slots.{slots};
 
 use crate::order::mark;
 use crate::row::Names;
-use records::{rec_at, slots};
-use trees::{Kind, Rec};
-
-// The record at slot j, if there is one.
-fn rec_if(src: &[u8], j: usize) -> Option<Rec> {
-    (j < slots(src)).then(|| rec_at(src, j))
-}
+use records::{rec_at, rec_there};
+use trees::Kind;
 
 // Whether a name is sought for the record at slot k: for a Var, or a Bind over a Wildcard. It stands in the next record.
 fn is_sought(src: &[u8], k: usize) -> bool
@@ -19,7 +14,7 @@ fn is_sought(src: &[u8], k: usize) -> bool
     let kind = rec_at(src, k).kind;
     kind == Kind::PatternVar as u8
         || kind == Kind::PatternBind as u8
-            && rec_if(src, k + 2).is_some_and(|r| r.kind == Kind::PatternWildcard as u8)
+            && rec_there(src, k + 2).is_some_and(|r| r.kind == Kind::PatternWildcard as u8)
 }
 
 // Marks the lengths that are sought for the records from slot `from` up to `upto`.
@@ -29,7 +24,7 @@ pub fn mark_sought(text: &[u8], src: &[u8], from: usize, upto: usize, marks: &mu
 {
     for k in from..upto {
         if is_sought(src, k) {
-            if let Some(name) = rec_if(src, k + 1) {
+            if let Some(name) = rec_there(src, k + 1) {
                 mark(text, marks, name.word1);
             }
         }

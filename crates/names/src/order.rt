@@ -29,11 +29,7 @@ impl<'a> Order<'a> {
             return names.seek(w);
         }
         let k = self.places.led(w);
-        if same_name(names.text, w, names.range_at(k)) {
-            Some(k)
-        } else {
-            None
-        }
+        same_name(names.text, w, names.range_at(k)).then_some(k)
     }
 }
 
@@ -77,11 +73,7 @@ fn gap(names: &Names, places: &[u32], w: u64) -> Option<usize>
     if same_name(names.text, w, x) {
         return None;
     }
-    if comes_before(names.text, w, x) {
-        Some(i)
-    } else {
-        Some(i + 1)
-    }
+    Some(i + usize::from(!comes_before(names.text, w, x)))
 }
 
 // The order with the name j in it, if it is of a marked length and the first of its kind; how many there are. The name 0 is always there: no
@@ -107,6 +99,7 @@ fn add(names: &Names, places: &mut [u32], m: usize, marks: &[u8], j: usize) -> u
 }
 
 // The order of the names of marked lengths; how many there are.
+// Kept: that the names are few and the places enough is a premise in the three that make an order: the places get a struct once they are made.
 fn put_in_order(names: &Names, places: &mut [u32], marks: &[u8]) -> usize
     requires few { names.now.n ≤ 65536 }
     requires room { names.now.n ≤ length places.old }

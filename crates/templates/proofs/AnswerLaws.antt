@@ -79,9 +79,6 @@ pub finish_accepted : (answer : Answer) (a b : List ℕ) (n r : ℕ) → b ≡ t
 unfolding cleared
 finish_accepted answer a b n r e f h = record { number = f ∙ rw h; output = e ∙ rw h }
 
-pub finish_countable : (answer : Answer) (n : ℕ) → answer ≡ Ok n → Countable answer → Countable (Ok n)
-finish_countable answer n e c = rw e at c
-
 -- the output is that of the answer wanted, and so is the number
 pub finished_output : (wanted : Answer) (l : List Rec) (a b c : List ℕ) (r : Answer) (x : ℕ) → Answered wanted l a b r → Finished r b c x → length b ≡ length a → c ≡ output_of wanted l (length a)
 unfolding cleared output_of

@@ -58,13 +58,7 @@ wrote_stop a b l m (NoPattern k) w = elim w [ ]
 pub same_reference : (a b : Output) (l : List Rec) → Wrote a l b (Ok tt) → b.bytes.ghost_name ≡ a.bytes.ghost_name
 same_reference a b l (all p) = p.same_reference
 
-pub wrote_within : (a b : Output) (l : List Rec) → Wrote a l b (Ok tt) → b.written ≤ b.room
-wrote_within a b l (all p) = omega (arith, p.within, p.room)
-
 -- ---- the turns of a loop
-
-pub reaches_start : (a : Output) (l : List Rec) → Reaches a l a l
-reaches_start a l = record { on = λ b y w. w }
 
 module _ (a₀ a : Output) (whole left : List Rec) (inv : Reaches a₀ whole a left) where
   pub reaches_more : (b : Output) (l more : List Rec) → left ≡ l ++ more → Wrote a l b (Ok tt) → Reaches a₀ whole b more
@@ -115,9 +109,6 @@ module _ (a : Output) (l : List ℕ) (from upto : ℕ) (ordered : from ≤ upto)
         room = v.room;
         same_reference = v.same_reference;
       })
-
-pub copying_start : (a : Output) (l : List ℕ) (from upto : ℕ) → Copying a l from upto a from
-copying_start a l from upto = record { wrote = refl; written = omega arith; room = refl; same_reference = refl }
 
 pub copying_turn : (a₀ a b : Output) (l : List ℕ) (from i upto : ℕ) (r : Rec) → b.bytes.now ≡ put a.bytes.now a.written r → r ≡ rec_at l i
     → (b.written ≡ a.written + 1) × (b.room ≡ a.room) × (b.bytes.ghost_name ≡ a.bytes.ghost_name) → Copying a₀ l from upto a i → from ≤ i → i < upto → upto ≤ slots l → Copying a₀ l from upto b (i + 1)

@@ -1,6 +1,7 @@
 // Pattern::make_macro_template and Pattern::subst_macro_args of ast.rs, as scans of record lists.
 #![tactic(auto)]
 
+mod appending;
 pub mod making;
 mod output;
 pub mod scans;

@@ -10,7 +10,7 @@ ghost use Rattle.templates.specs.Scans.{option_of, params_of, named_at, wildcard
 use crate::output::Output;
 use crate::{Answer, Refused};
 use forms::scans::{first_macro_arg, first_where};
-use records::{rec_at, slots};
+use records::{rec_at, rec_there, slots};
 use tokens::names::spelling;
 use trees::{Kind, Rec};
 use words::same;
@@ -22,14 +22,6 @@ struct Making<'a> {
     pattern: &'a [u8],
     params: &'a [u8],
     ghost idents: { Params params.now } by { Prim.hlevel leaves },
-}
-
-// The record at slot j, if there is one.
-fn rec_there(list: &[u8], j: usize) -> Option<Rec>
-    ensures there { IfSome result (λ r. (j < slots list.now) × (r ≡ rec_at list.now j)) }
-    ensures past { IfNone result (slots list.now ≤ j) }
-{
-    (j < slots(list)).then(|| rec_at(list, j))
 }
 
 // A Var's name is left out, a Bind's name and Wildcard.
@@ -101,7 +93,6 @@ impl<'a> Making<'a> {
     // a copy wants all of, a MacroArg wants little.
     fn append(&self, out: &mut Output) -> Result<(), Refused>
         requires few { slots self.now.pattern.now ≤ 65536 }
-        requires within { out.old.written ≤ out.old.room }
         ensures { Wrote out.old (making_from self.now.text.now self.now.pattern.now 0 self.now.params.now) out.new result }
     {
         let end = slots(self.pattern);

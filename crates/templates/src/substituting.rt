@@ -54,7 +54,6 @@ impl<'a> Patterns<'a> {
     // Appends the pattern k.
     fn append(&self, k: usize, out: &mut Output) -> Result<(), Refused>
         requires given { k < length self.now.starts.now }
-        requires within { out.old.written ≤ out.old.room }
         ensures { Wrote out.old (pattern_records self.now.records.now k) out.new result }
     {
         let from = self.start_of(k);
@@ -67,7 +66,6 @@ impl<'a> Patterns<'a> {
     fn append_filled(&self, template: &[u8], i: usize, out: &mut Output) -> Result<(), Refused>
         requires args_below { ArgsBelow template.now (length self.now.starts.now) }
         requires there { i < slots template.now }
-        requires within { out.old.written ≤ out.old.room }
         ensures { Wrote out.old (filled_by self.now.records.now (rec_at template.now i)) out.new result }
     {
         let r = rec_at(template, i);
@@ -80,7 +78,6 @@ impl<'a> Patterns<'a> {
     // Appends the template with the patterns in it.
     fn fill(&self, template: &[u8], out: &mut Output) -> Result<(), Refused>
         requires args_below { ArgsBelow template.now (length self.now.starts.now) }
-        requires within { out.old.written ≤ out.old.room }
         ensures { Wrote out.old (fill_from template.now 0 self.now.records.now) out.new result }
     {
         for i in 0..slots(template) {
@@ -91,8 +88,9 @@ impl<'a> Patterns<'a> {
 }
 
 // The template with the patterns in it, by a lent table for their starts.
-// Kept: of a template and its patterns together only this function and the next ask `SubstituteReady`. A struct with that as a ghost field
-// would take two lines of premise away, and add to specs/ the proofs that its lists of conditions have one proof at most.
+// Kept: of a template and its patterns together this function and the next two ask `SubstituteReady`, and the last is public and must. A struct
+// with that as a ghost field would take two lines of premise away, and add to specs/ the proofs that its lists of conditions have one proof at
+// most.
 fn substitute_by(template: &[u8], patterns: &[u8], starts: &mut [u32], out: &mut [u8]) -> Answer
     requires ready { SubstituteReady template.now patterns.now }
     requires room { slots patterns.now ≤ length starts.old }

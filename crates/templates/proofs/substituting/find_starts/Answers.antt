@@ -1,12 +1,9 @@
 use Rattle.std.proofs.Common.{arith}
-use Rattle.templates.proofs.FillLaws.{find_start, find_room, find_turn, find_end, find_later}
+use Rattle.templates.proofs.FillLaws.{find_start, find_turn, find_end, find_later}
 use Rattle.templates.proofs.substituting.find_starts.Goals as goal
 
 pub loop-i-init : goal.loop-i-init
 loop-i-init c = search find_start
-
-pub bounds-starts-n : goal.bounds-starts-n
-bounds-starts-n c = find_room _ _ _ _ _ c.loop-i.invariant (omega arith) c.requires.room
 
 pub loop-i-smaller : goal.loop-i-smaller
 loop-i-smaller c = omega (arith, find_later _ _ _ c.skip-i.ensures (omega arith))

@@ -11,8 +11,8 @@ returns-in-Some c = substitute_refused _ _ c.requires.ready _ _ c.find_starts-m.
 pub invariant_of-found-clause-found : goal.invariant_of-found-clause-found
 invariant_of-found-clause-found c = starts_found _ _ _ c.find_starts-m.ensures
 
-pub fill-requires-clause-args_below : goal.fill-requires-clause-args_below
-fill-requires-clause-args_below c = cut_args _ _ _ c.find_starts-m.ensures.room (args_below _ _ c.requires.ready _ _ c.find_starts-m.ensures c.in_default.ensures.first)
+pub fill-requires : goal.fill-requires
+fill-requires c = record { args_below = cut_args _ _ _ c.find_starts-m.ensures.room (args_below _ _ c.requires.ready _ _ c.find_starts-m.ensures c.in_default.ensures.first) }
 
 pub invariant_of-found-clause-few : goal.invariant_of-found-clause-few
 invariant_of-found-clause-few c = cut_few _ _ (few_starts _ _ c.requires.ready _ _ c.find_starts-m.ensures)
