@@ -21,9 +21,9 @@ use Rattle.grounds.proofs.FirstLaws.{flaw_here, flaw_next}
 use Rattle.grounds.proofs.At.{here, past, length-recs}
 use Rattle.std.specs.Prelude.{Result, Ok, Err}
 use Rattle.records.specs.declared.Ground.{Ground}
-use Rattle.records.specs.Grounds.{number}
+use Rattle.records.specs.Grounds.{number, code}
 use Rattle.judging.proofs.GivenLaws.{number_some}
-use Rattle.judging.specs.Judging.{flaw, mark_of, Low, MarkedAt, Scanned}
+use Rattle.judging.specs.Judging.{flaw, Low, MarkedAt, Scanned}
 
 positive : (n : ℕ) → (n ≡ 0 → ⊥) → 0 < n
 positive zero h = absurd (h refl)
@@ -109,14 +109,14 @@ module _ {A : Type 0} (f : A → Head → Trees → ℕ) (src : List ℕ) (at tr
   pub scanning_few : todo ≤ 65536
   scanning_few = omega (arith, g.few, g.there, trees-few (drop k (recs src)), length-drop k (recs src), length-recs src)
 
-  module _ (found : Result (Unit {0}) Ground) (judged : MarkedAt f src k (mark_of found)) (more : todo ≡ 0 → ⊥) where
+  module _ (found : Result (Unit {0}) Ground) (judged : MarkedAt f src k (code found)) (more : todo ≡ 0 → ⊥) where
     some : 0 < todo
     some = positive todo more
 
     split : drop k (recs src) ≡ rec_at src k ∷ drop (k + 1) (recs src)
     split = here src k (scanning_inside some)
 
-    mark : (x : A) → marks_all (f x) (firsts todo (trees_of (drop k (recs src)))) ≡ mark_of found ∷ marks_all (f x) (firsts (todo - 1 + (rec_at src k).count) (trees_of (drop (k + 1) (recs src))))
+    mark : (x : A) → marks_all (f x) (firsts todo (trees_of (drop k (recs src)))) ≡ code found ∷ marks_all (f x) (firsts (todo - 1 + (rec_at src k).count) (trees_of (drop (k + 1) (recs src))))
     unfolding MarkedAt
     mark x =
         let m : todo ≡ suc (todo - 1) = omega arith in
@@ -147,5 +147,5 @@ module _ {A : Type 0} (f : A → Head → Trees → ℕ) (src : List ℕ) (at tr
               let c : (rec_at src k).count + (todo - 1) ≡ todo - 1 + r.count = rw is (omega arith) in
               let s : span (drop k (recs src)) todo ≡ suc (span (drop (k + 1) (recs src)) (todo - 1 + r.count)) = ap (span (drop k (recs src))) m ∙ ap (λ (rs : List Rec). span rs (suc (todo - 1))) split ∙ rw c in
               omega (arith, g.ends);
-          leads = λ x. g.leads x ∙ ap (first_from k) (mark x) ∙ flaw_next k (mark_of found) _ (ap mark_of z) ∙ rw (add-one k, is);
+          leads = λ x. g.leads x ∙ ap (first_from k) (mark x) ∙ flaw_next k (code found) _ (ap code z) ∙ rw (add-one k, is);
         }

@@ -28,11 +28,6 @@ abbrev pub given : {A : Type 0} → Result A Flaw → Option Refusal
 given (Ok n) = none
 given (Err e) = some (refusal (number e.reason) e.place)
 
--- the number of what is wrong with one node, or 0
-abbrev pub mark_of : Result (Unit {0}) Ground → ℕ
-mark_of (Ok u) = 0
-mark_of (Err g) = number g
-
 -- a place below m
 unfoldable pub Low : {A : Type 0} → ℕ → Result A Flaw → Type 0
 Low m (Ok n) = Unit {0}

@@ -2,7 +2,8 @@
 ghost use Rattle.std.specs.Prelude.{◌≡◌, ◌≤◌, ◌<◌, length, drop};
 ghost use Rattle.trees.specs.Tree.{count, trees_of};
 ghost use Rattle.records.specs.Slots.{slots, recs};
-ghost use Rattle.judging.specs.Judging.{Sound, mark_of, by_number, MarkedAt, Scanned, its_flaw};
+ghost use Rattle.records.specs.Grounds.{code};
+ghost use Rattle.judging.specs.Judging.{Sound, by_number, MarkedAt, Scanned, its_flaw};
 
 use crate::Flaw;
 use crate::table::Extractors;
@@ -20,7 +21,7 @@ pub struct Callable<'a> {
 impl Callable<'_> {
     // A call by the row that its name is looked up to: 31 or 32, if it is wrong.
     fn judge_number(&self, found: Option<usize>, count: u16) -> Result<(), Ground>
-        ensures { mark_of result ≡ by_number self.now.known.rows.now self.now.earlier found count }
+        ensures { code result ≡ by_number self.now.known.rows.now self.now.earlier found count }
     {
         let Some(x) = found else {
             return Ok(());
@@ -35,10 +36,11 @@ impl Callable<'_> {
     }
 
     // The record at the index k as a call: 31 or 32, if it is wrong.
+    // Kept: that the list is sound is a premise in all that read the definitions and the pattern alike; each of these two has it as a fact.
     fn judge_call(&self, src: &[u8], k: usize) -> Result<(), Ground>
         requires inside { k < slots src.now }
         requires sound { Sound src.now }
-        ensures { MarkedAt (its_flaw self.now.known.text.now self.now.known.rows.now self.now.earlier) src.now k (mark_of result) }
+        ensures { MarkedAt (its_flaw self.now.known.text.now self.now.known.rows.now self.now.earlier) src.now k (code result) }
     {
         let r = rec_at(src, k);
         if r.kind != Kind::PatternTerm as u8 {

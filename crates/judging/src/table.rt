@@ -71,8 +71,8 @@ fn entry_at(defs: &[u8], i: usize) -> Entry
     }
 }
 
-// Kept: the table is lent as a slice with room for so many; an array of just so many would ask more of callers.
 // Fills the table with the extractors of a definition list: their number, or 33 at the 257th.
+// Kept: the table is lent as a slice with room for so many; an array of just so many would ask more of callers.
 pub fn make_table(defs: &Definitions, table: &mut [Entry]) -> Result<usize, Flaw>
     requires { MOST ≤ length table.old }
     ensures { Tabled defs.now.records.now table.new result }

@@ -40,23 +40,14 @@ impl Answered<'_> {
         same_answer(number, out, self.answer, self.written)
     }
 
-    // The same with a store and an output of these sizes.
-    fn agrees_at(&self, store: &mut [u8], s: usize, out: &mut [u8], o: usize) -> bool
-        requires s_in_bounds { s ≤ length store.old }
-        requires o_in_bounds { o ≤ length out.old }
-        ensures { result ≡ agreed_both (opened_of self.now s o) self.now.answer self.now.stored.now self.now.written.now }
-    {
-        self.agrees(&mut store[..s], &mut out[..o])
-    }
-
     // Just the sizes that the case names; and a part of a record more, which is no more space.
     fn compare(&self, store: &mut [u8], s: usize, out: &mut [u8], o: usize, tally: Tally) -> Tally
         requires s_in_bounds { s + 10 ≤ length store.old }
         requires o_in_bounds { o + 10 ≤ length out.old }
         ensures { result.differ ≡ after_opening tally.differ (opened_of self.now) s o self.now.answer self.now.stored.now self.now.written.now }
     {
-        let exact = self.agrees_at(store, s, out, o);
-        let more = self.agrees_at(store, s + 10, out, o + 10);
+        let exact = self.agrees(&mut store[..s], &mut out[..o]);
+        let more = self.agrees(&mut store[..s + 10], &mut out[..o + 10]);
         tally.case().call(exact).call(more)
     }
 }
