@@ -119,7 +119,8 @@ fn parse_letdef(p: &mut Parser, depth: usize) -> Result<(), Stop>
 }
 
 // Let definitions up to a `)`, which is left.
-// Kept: a loop of its own beside `Parser::parse_row`, since a cycle that goes through a trait's method gets no proof.
+// Kept: a loop of its own beside `Parser::parse_row`, since a cycle that goes through a trait's method gets no proof; a closure in a cycle would
+// want its clauses written out here, which are longer than the loop.
 #[cycle(expr)]
 fn parse_letdefs(p: &mut Parser, depth: usize) -> Result<(), Stop>
     requires { Begins 4 p.old }

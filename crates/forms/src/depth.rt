@@ -20,6 +20,7 @@ fn is_level(r: Rec) -> bool
 }
 
 // How many trees each open level still expects, the outermost first, and how many levels are open.
+// Kept: counts with their number beside them, since there is no heap.
 #[derive(Drop)]
 struct Levels {
     counts: [u64; LEVELS],
@@ -57,6 +58,7 @@ impl Levels {
     }
 
     // The innermost level has read one tree, and expects c more.
+    // Kept: that the counts are small is a premise, since a count is larger after `stay` than before: that it stays small is known of a list alone.
     fn stay(&mut self, c: u64)
         requires small { Small 4294967296 (pending self.old.counts self.old.depth) }
         requires few { c < 65536 }

@@ -155,6 +155,7 @@ fn try_lists(input: &mut [u8], field: Option<Field>) -> u64
 {
     let mut accepted = 0;
     let mut at = 0;
+    // Kept: here and below each list starts where the one before it ends, so that no range has the starts.
     while let Some(list) = list_at(input, at) {
         accepted += try_list(&mut input[list.from..list.to], field, list.form);
         at = list.to;

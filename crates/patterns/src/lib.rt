@@ -123,7 +123,8 @@ fn parse_term(p: &mut Parser, depth: usize, t: Token) -> Result<(), Stop>
 }
 
 // Patterns up to a `)`, which is left.
-// Kept: a loop of its own beside `Parser::parse_row`, since a cycle that goes through a trait's method gets no proof.
+// Kept: a loop of its own beside `Parser::parse_row`, since a cycle that goes through a trait's method gets no proof; a closure in a cycle would
+// want its clauses written out here, which are longer than the loop.
 #[cycle(pattern)]
 fn parse_patterns(p: &mut Parser, depth: usize) -> Result<(), Stop>
     requires { Begins 4 p.old }

@@ -67,7 +67,8 @@ impl Stop {
 
 // What is read, the output that the records go to, and how far reading is: Parser of the Rust.
 // Kept: that the tokens are few and the text short is a premise (`Begins`) and no ghost field here: next_token, expect_lparen and others ask nothing
-// of it, and a ghost field would ask it of all who make a parser.
+// of it, and a ghost field would ask it of all who make a parser. So are that a token is the next one, that a node is near and that records are few:
+// they are of an argument, and of one moment.
 #[derive(Drop)]
 pub struct Parser<'a> {
     pub source: Source<'a>,
@@ -187,7 +188,7 @@ impl Parser<'_> {
     }
 
     // The same by the next token t.
-    // Kept: beside expect_lparen, since the caller has read the token already; expect_lparen reads its kind alone.
+    // Kept: beside expect_lparen: the caller has read the token, and to read it once more takes time; expect_lparen reads its kind alone.
     pub fn expect_lparen_of(&mut self, t: Token) -> Result<(), Stop>
         requires { t ≡ peek (read_by self.old) self.old.state.next }
         ensures reads { Read expect-lparen self.old self.new result }

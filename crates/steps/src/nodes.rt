@@ -37,7 +37,7 @@ impl Parser<'_> {
     }
 
     // The same by its first token t.
-    // Kept: beside close_at, since the caller has read the token already; close_at reads its position alone.
+    // Kept: beside close_at: the caller has read the token, and to read it once more takes time; close_at reads its position alone.
     pub fn close_of(&mut self, node: State, kind: Kind, flags: u8, t: Token)
         requires near { Near node }
         requires few { self.old.state.items < 65536 }

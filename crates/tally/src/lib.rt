@@ -17,6 +17,7 @@ pub struct Tally {
 }
 
 // The record r at slot n, where there is space for it.
+// Kept: the space is a premise here and below, since document 01 names the three forms: a tally that holds no output, and plain parameters.
 fn put_within(out: &mut [u8], n: usize, space: usize, r: Rec)
     requires { space ≡ slots out.old }
     ensures { out.new ≡ put out.old n r }
