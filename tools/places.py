@@ -146,7 +146,7 @@ PLACES = {
     "5 parameters-in-three": travelling(),
     "5 six-or-more-parameters": heads(lambda f: len([p for p in re.split(r",(?![^<]*>)", f[1]) if p.strip()]) > 5),
     "5 structs": lines(r"^\s*(?:pub )?struct \w+"),
-    "5 ghost-facts": lines(r"^\s*(?:pub )?ghost \w+:"),
+    "5 ghost-facts": lines(r"^\s*(?:pub(?:\(\w+\))? )?ghost \w+: \{.*,$"),
     "6 length-beside": [f"{p} {f[0]}: {x}" for p, f in ALL for x in re.findall(LENT, f[1])],
     "7 switches": heads(lambda f: re.search(r"\bwhich\b|\bentry: (?:u8|Entry)\b|\bfield: (?:usize|Field)\b|\bform: (?:u8|usize|Form)\b|\bto: Side\b|\bside: u8\b", f[1])),
     "7 closures": lines(r"\|\w+(?:, \w+)*\| |F: Fn\w*\("),
