@@ -25,9 +25,9 @@ module _ (c : Lent) (o l : List ℕ) (r : ℕ) where
   unfolding said
   said_read tokens text end e a = rw (e, a.returns, a.output)
 
-  pub said-text : (text : Bor (List ℕ)) → c ≡ lends.Text text → Answered (text_reading text.now (slots o)) (length o) l r → says r l ≡ said_of c (length o)
+  pub said-text : (text first : Bor (List ℕ)) → c ≡ lends.Text text first → Answered (text_reading text.now (slots o)) (length o) l r → says r l ≡ said_of c (length o)
   unfolding said
-  said-text text e a = rw (e, a.returns, a.output)
+  said-text text first e a = rw (e, a.returns, a.output)
 
   pub said_make : (text pattern params : Bor (List ℕ)) → c ≡ lends.Make text pattern params → Ended (making text.now pattern.now params.now o) (length o) l r → says r l ≡ said_of c (length o)
   unfolding said making space

@@ -46,14 +46,14 @@ said Fill text first second end n = of_call (lists.substituting text first secon
 -- of what is lent
 abbrev pub said_of : Lent → ℕ → Said
 said_of (lends.Read tokens text end) n = said Read text.now tokens.now [] end n
-said_of (lends.Text text) n = said Text text.now [] [] 0 n
+said_of (lends.Text text first) n = said Text text.now [] [] 0 n
 said_of (lends.Make text pattern params) n = said Make text.now pattern.now params.now 0 n
 said_of (lends.Fill text template args) n = said Fill text.now template.now args.now 0 n
 
 -- how many bytes its first list has
 abbrev pub first_size : Lent → ℕ
 first_size (lends.Read tokens text end) = length tokens.now
-first_size (lends.Text text) = 0
+first_size (lends.Text text first) = length first.now
 first_size (lends.Make text pattern params) = length pattern.now
 first_size (lends.Fill text template args) = length template.now
 

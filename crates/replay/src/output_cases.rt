@@ -29,7 +29,7 @@ pub enum Entry {
     Fill,
 }
 
-// What an entry is called with.
+// What an entry is called with; and the first list of a case of text, which its entry does not take and the larger output counts.
 #[derive(Clone, Copy)]
 enum Lent<'a> {
     Read {
@@ -39,6 +39,7 @@ enum Lent<'a> {
     },
     Text {
         text: &'a [u8],
+        first: &'a [u8],
     },
     Make {
         text: &'a [u8],
@@ -58,7 +59,7 @@ impl Lent<'_> {
     {
         match *self {
             Lent::Read { tokens, text, end } => read(tokens, text, end, out),
-            Lent::Text { text } => read_text(text, out),
+            Lent::Text { text, .. } => read_text(text, out),
             Lent::Make {
                 text,
                 pattern,
@@ -78,7 +79,7 @@ impl Lent<'_> {
     {
         match *self {
             Lent::Read { tokens, .. } => tokens.len(),
-            Lent::Text { .. } => 0,
+            Lent::Text { first, .. } => first.len(),
             Lent::Make { pattern, .. } => pattern.len(),
             Lent::Fill { template, .. } => template.len(),
         }
@@ -194,7 +195,7 @@ impl Case {
                 text,
                 end: self.end,
             },
-            Entry::Text => Lent::Text { text },
+            Entry::Text => Lent::Text { text, first },
             Entry::Make => Lent::Make {
                 text,
                 pattern: first,
