@@ -4,10 +4,10 @@
 // two empty lists. A case of `read.answers`: token count, text length, end position, record count (32 bits each), the number returned
 // (64 bits), tokens, text, records; the tokens are its first list here, and its second list is empty. The record count is 0 after a
 // refusal. differential/README.md says what the cases are and how the files are made.
-ghost use Rattle.std.specs.Prelude.{◌≡◌, ◌+◌, ◌*◌, ◌≤◌, true, length};
+ghost use Rattle.std.specs.Prelude.{◌≡◌, ℕ, ◌+◌, ◌*◌, ◌≤◌, true, length};
 ghost use Rattle.replay.specs.Agreed.{agreed};
 ghost use Rattle.replay.specs.Counted.{after_room, after_short, after_case};
-ghost use Rattle.replay.specs.Said.{says, said_of, first_size};
+ghost use Rattle.replay.specs.Said.{says, said, said_of, first_size};
 ghost use Rattle.replay.specs.SmallCase.{SmallCase};
 
 use crate::outputs::{prefill, same_answer, without_space};
@@ -185,9 +185,11 @@ impl Case {
         }
     }
 
-    // What its entry is called with, of what was read.
+    // What its entry is called with, of what was read: what is said of it is what is said of the entry, the text, the lists and the end.
+    #[tactic(auto, unfolding(crate::specs::Said::said))]
     fn lent<'a>(self, text: &'a [u8], first: &'a [u8], second: &'a [u8]) -> Lent<'a>
-        ensures { first_size result ≤ length first.now }
+        ensures meant { (n : ℕ) → said_of result n ≡ said self.entry text.now first.now second.now self.end n }
+        ensures counted { first_size result ≡ length first.now }
     {
         match self.entry {
             Entry::Read => Lent::Read {
