@@ -80,17 +80,20 @@ impl Head {
     }
 }
 
-// The rest of the input: buffers of just the sizes that the input names, within the limits.
-fn sheet(rt: &(impl Print + Alloc), input: &mut impl Read, head: Head) -> io::Result<()> {
+// The rest of the input: parts of buffers, of just the sizes that the input names, within the limits.
+// Kept: the buffers are arrays on the stack, not Vecs of these sizes, since a Vec would be a new way to fail.
+fn sheet(rt: &impl Print, input: &mut impl Read, head: Head) -> io::Result<()> {
     if 512 < head.tokens || 8192 < head.chars {
         return print_refusal(rt, Ground::TooMuch);
     }
-    let mut tokens = vec![in rt.alloc(); 0u8; head.tokens as usize * Token::WIDTH]?;
-    let mut text = vec![in rt.alloc(); 0u8; head.chars as usize]?;
-    if !filled(input, &mut tokens)? || !filled(input, &mut text)? {
+    let mut token_space = [0u8; 12288];
+    let mut text_space = [0u8; 8192];
+    let tokens = &mut token_space[..head.tokens as usize * Token::WIDTH];
+    let text = &mut text_space[..head.chars as usize];
+    if !filled(input, tokens)? || !filled(input, text)? {
         return print_refusal(rt, Ground::PartOfARecord);
     }
-    print_reading(rt, &tokens, &text, head.end)
+    print_reading(rt, tokens, text, head.end)
 }
 
 fn main(rt: HostRuntime) -> io::Result<()> {
