@@ -17,7 +17,7 @@ enum Kind {
 impl Kind {
     fn next_case(
         self,
-        rt: &(impl Print + Alloc),
+        rt: &impl Print,
         cases: &mut impl BufRead,
         tally: Tally,
     ) -> io::Result<Step> {
@@ -29,7 +29,7 @@ impl Kind {
 }
 
 // Nothing says that a file ends, so the turns are counted up to a number that no file uses up.
-fn all_cases(rt: &(impl Print + Alloc), cases: &mut impl BufRead, kind: Kind) -> io::Result<Tally> {
+fn all_cases(rt: &impl Print, cases: &mut impl BufRead, kind: Kind) -> io::Result<Tally> {
     let mut tally = Tally::default();
     for _ in 0..1000000000u64 {
         match kind.next_case(rt, cases, tally)? {

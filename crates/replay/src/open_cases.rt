@@ -113,45 +113,48 @@ fn filled_lists(
     Ok(filled(cases, text)? && filled(cases, defs)? && filled(cases, pattern)?)
 }
 
-// The rest of a case: buffers of just the sizes that it names.
+// The rest of a case: parts of buffers, of just the sizes that it names. The store and the output have room for 4,096 records and a part of
+// one.
+// Kept: the buffers are arrays on the stack, not Vecs of these sizes, since a Vec would be a new way to fail.
 fn replay_case(
-    rt: &(impl Print + Alloc),
+    rt: &impl Print,
     cases: &mut impl BufRead,
     c: Opening,
     tally: Tally,
 ) -> io::Result<Step>
     requires { SmallOpening c }
 {
-    let mut text = vec![in rt.alloc(); 0u8; c.text]?;
-    let mut defs = vec![in rt.alloc(); 0u8; c.defs]?;
-    let mut pattern = vec![in rt.alloc(); 0u8; c.pattern]?;
-    let mut stored = vec![in rt.alloc(); 0u8; c.stored]?;
-    let mut written = vec![in rt.alloc(); 0u8; c.written]?;
-    if !filled_lists(cases, &mut text, &mut defs, &mut pattern)? {
+    let mut text_space = [0u8; 98304];
+    let mut def_space = [0u8; 98304];
+    let mut pattern_space = [0u8; 98304];
+    let mut stored_space = [0u8; 98304];
+    let mut written_space = [0u8; 98304];
+    let text = &mut text_space[..c.text];
+    let defs = &mut def_space[..c.defs];
+    let pattern = &mut pattern_space[..c.pattern];
+    let stored = &mut stored_space[..c.stored];
+    let written = &mut written_space[..c.written];
+    if !filled_lists(cases, text, defs, pattern)? {
         return damaged(rt, tally);
     }
-    if !filled(cases, &mut stored)? || !filled(cases, &mut written)? {
+    if !filled(cases, stored)? || !filled(cases, written)? {
         return damaged(rt, tally);
     }
-    let mut store = vec![in rt.alloc(); 0u8; c.store + 10]?;
-    let mut out = vec![in rt.alloc(); 0u8; c.out + 10]?;
+    let mut store = [0u8; 98314];
+    let mut out = [0u8; 98314];
     let answered = Answered {
-        text: &text,
-        defs: &defs,
-        pattern: &pattern,
+        text,
+        defs,
+        pattern,
         answer: c.answer,
-        stored: &stored,
-        written: &written,
+        stored,
+        written,
     };
     Ok(ControlFlow::Continue(answered.compare(&mut store, c.store, &mut out, c.out, tally)))
 }
 
 // The next case, where the file has one.
-pub fn next_case(
-    rt: &(impl Print + Alloc),
-    cases: &mut impl BufRead,
-    tally: Tally,
-) -> io::Result<Step> {
+pub fn next_case(rt: &impl Print, cases: &mut impl BufRead, tally: Tally) -> io::Result<Step> {
     if cases.fill_buf()?.is_empty() {
         return Ok(ControlFlow::Break(tally));
     }

@@ -137,7 +137,7 @@ impl Lent<'_> {
 }
 
 // Sizes in bytes; and the end position, which reading alone has.
-// Kept: buffers of these sizes are made and filled for each entry alike; an enum would want a match at each buffer.
+// Kept: parts of buffers of these sizes are filled for each entry alike; an enum would want a match at each of them.
 #[derive(Clone, Copy)]
 struct Case {
     entry: Entry,
@@ -236,33 +236,34 @@ fn filled_inputs(
     }
 }
 
-// The rest of a case: buffers of just the sizes that it names.
-fn replay_case(
-    rt: &(impl Print + Alloc),
-    cases: &mut impl BufRead,
-    c: Case,
-    tally: Tally,
-) -> io::Result<Step>
+// The rest of a case: parts of buffers, of just the sizes that it names. There is room for a text that is one byte too long and for 1,024
+// tokens or records in a list, and in the output for 1,024 records, three records for each of 1,024 tokens, and 1,000 bytes.
+// Kept: the buffers are arrays on the stack, not Vecs of these sizes, since a Vec would be a new way to fail.
+fn replay_case(rt: &impl Print, cases: &mut impl BufRead, c: Case, tally: Tally) -> io::Result<Step>
     requires { SmallCase c }
 {
-    let mut text = vec![in rt.alloc(); 0u8; c.text]?;
-    let mut first = vec![in rt.alloc(); 0u8; c.first]?;
-    let mut second = vec![in rt.alloc(); 0u8; c.second]?;
-    let mut records = vec![in rt.alloc(); 0u8; c.records]?;
-    if !filled_inputs(cases, c.entry, &mut text, &mut first)? {
+    let mut text_space = [0u8; 65537];
+    let mut first_space = [0u8; 24576];
+    let mut second_space = [0u8; 24576];
+    let mut record_space = [0u8; 24576];
+    let text = &mut text_space[..c.text];
+    let first = &mut first_space[..c.first];
+    let second = &mut second_space[..c.second];
+    let records = &mut record_space[..c.records];
+    if !filled_inputs(cases, c.entry, text, first)? {
         return damaged(rt, tally);
     }
-    if !filled_both(cases, &mut second, &mut records)? {
+    if !filled_both(cases, second, records)? {
         return damaged(rt, tally);
     }
-    let mut out = vec![in rt.alloc(); 0u8; c.records + (3 * c.first + 1000)]?;
-    let lent = c.lent(&text, &first, &second);
-    Ok(ControlFlow::Continue(lent.compare(c.answer, &records, &mut out, tally)))
+    let mut out = [0u8; 99304];
+    let lent = c.lent(text, first, second);
+    Ok(ControlFlow::Continue(lent.compare(c.answer, records, &mut out, tally)))
 }
 
 // The next case, where the file has one.
 pub fn next_case(
-    rt: &(impl Print + Alloc),
+    rt: &impl Print,
     cases: &mut impl BufRead,
     entry: Entry,
     tally: Tally,
