@@ -1,10 +1,12 @@
 -- Laws of good tokens, one for each way through the code that judges them. Assumes nothing.
-use Prim.Native.Nat.{ℕ, zero, suc, ◌+◌, ◌-◌, ◌*◌, ◌/◌, ◌%◌, ◌<◌, ◌≤◌}
+use Prim.Native.Nat.{ℕ, zero, suc, ◌+◌, ◌-◌, ◌*◌, ◌/◌, ◌%◌, ◌<◌, ◌≤◌, max}
 use native.Mathlib.Omega.{arith}
+use native.Mathlib.Numerals.{add-one}
 use mathlib.Core.Path.{◌≡◌, refl, sym, ap, ◌∙◌}
 use mathlib.Core.List.{List, [], ◌∷◌}
 use mathlib.Core.Bool.{Bool, true, false, false≢true, ◌&&◌}
-use lib.ListN.{length, take, drop}
+use lib.ListN.{length, get_or, take, drop, drop_of_length-le}
+use lib.Seq.{drop-cons}
 use lib.Dec.{ltb, leb, eqb}
 use borrow.Author.Tests.{lt-ltb, le-ltb, leb-true, leb-false, eq-eqb, ne_eqb}
 use Rattle.std.specs.List.{list_all}
@@ -23,6 +25,41 @@ ascii_all (c ∷ cs) = go (leb 128 c) (list_all (λ b. ltb b 128) cs) refl (asci
     go : (a x : Bool) → leb 128 c ≡ a → x ≡ ascii cs → (ltb c 128 && x) ≡ pick a false (ascii cs)
     go true x h e = rw (le-ltb c 128 (leb-true 128 c h))
     go false x h e = rw (lt-ltb c 128 (leb-false 128 c h)) e
+
+-- two bytes are below 128 where the greater one is
+both_below : (h c : ℕ) (x : Bool) → pick (leb 128 h) false (pick (leb 128 c) false x) ≡ pick (leb 128 (max h c)) false x
+both_below h c x = go (leb 128 h) (leb 128 c) (leb 128 (max h c)) refl refl refl
+  where
+    go : (a b d : Bool) → leb 128 h ≡ a → leb 128 c ≡ b → leb 128 (max h c) ≡ d → pick a false (pick b false x) ≡ pick d false x
+    go true b true p q r = refl
+    go true b false p q r = absurd (omega (arith, leb-true 128 h p, leb-false 128 (max h c) r))
+    go false true true p q r = refl
+    go false true false p q r = absurd (omega (arith, leb-true 128 c q, leb-false 128 (max h c) r))
+    go false false true p q r = absurd (omega (arith, leb-false 128 h p, leb-false 128 c q, leb-true 128 (max h c) r))
+    go false false false p q r = refl
+
+last : (h : ℕ) → pick (leb 128 h) false true ≡ ltb h 128
+last h = go (leb 128 h) refl
+  where
+    go : (a : Bool) → leb 128 h ≡ a → pick a false true ≡ ltb h 128
+    go true p = sym (le-ltb h 128 (leb-true 128 h p))
+    go false p = sym (lt-ltb h 128 (leb-false 128 h p))
+
+-- the highest byte so far tells of all before i
+abbrev pub ascii_from : ℕ → List ℕ → Bool
+ascii_from h s = pick (leb 128 h) false (ascii s)
+
+pub ascii_start : (s : List ℕ) → ascii s ≡ ascii_from 0 (drop 0 s)
+ascii_start s = refl
+
+module _ (s : List ℕ) (i h : ℕ) (q : ascii s ≡ ascii_from h (drop i s)) where
+  pub ascii_on : (g : ℕ) → i < length s → g ≡ max h (get_or s i 0) → ascii s ≡ ascii_from g (drop (i + 1) s)
+  unfolding ascii
+  ascii_on g l e = q ∙ rw (add-one, drop-cons s i 0 l, e) (both_below h (get_or s i 0) (ascii (drop (suc i) s)))
+
+  pub ascii_end : length s ≤ i → ltb h 128 ≡ ascii s
+  unfolding ascii
+  ascii_end l = sym (q ∙ rw (drop_of_length-le s l) (last h))
 
 symbol_outside : (text : List ℕ) (range : ℕ) → length text < range / 4294967296 + range % 4294967296 → false ≡ good_symbol text range
 unfolding good_symbol

@@ -7,12 +7,17 @@ use crate::names::spelling;
 use crate::{Token, all_pass};
 use words::word;
 
-// Whether all bytes are below 128.
-#[tactic(auto, using(crate::proofs::LentLaws::ascii_all))]
+// Whether all bytes are below 128: whether the highest is.
+// Kept: a loop of its own beside `all_pass`: with that, a list of few tokens over a long text took a third more time.
+#[tactic(auto, using(crate::proofs::LentLaws::ascii_on, crate::proofs::LentLaws::ascii_end))]
 pub fn is_ascii(s: &[u8]) -> bool
     ensures { result ≡ ascii s.now }
 {
-    all_pass(s, |c| c < 128)
+    let mut highest = 0;
+    for c in s {
+        highest = highest.max(*c);
+    }
+    highest < 128
 }
 
 // A token list, its text and the position of the end; and whether all of the text is below 128.

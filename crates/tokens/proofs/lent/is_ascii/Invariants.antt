@@ -1,5 +1,8 @@
-use Rattle.std.specs.Prelude.{ltb}
+use mathlib.Core.Path.{◌≡◌}
+use lib.ListN.{drop}
+use Rattle.tokens.specs.Lent.{ascii}
+use Rattle.tokens.proofs.LentLaws.{ascii_from}
 use Rattle.tokens.proofs.lent.is_ascii.Given as goal
 
-abbrev pub ghost-all_pass : goal.ghost-all_pass
-ghost-all_pass a = λ c. ltb c 128
+abbrev pub invariant-loop-c : goal.invariant-loop-c
+invariant-loop-c l = ascii l.s ≡ ascii_from l.highest (drop l.c-index l.s)
