@@ -12,13 +12,14 @@ ghost use Rattle.opening.specs.Lent.{held, SameLent};
 ghost use Rattle.templating.specs.Calls.{refusal as refusal_number};
 ghost use Rattle.openings.specs.Calls.{check, opening_of, Left, Finished};
 
-use forms::judge::definitions;
+use forms::judge::{definitions, one_pattern};
 use grounds::Counts;
 use judging::Flaw;
 use judging::lent::{Definitions, Pattern};
 use opening::lent::Outputs;
 use opening::whole::open_into;
 use records::{Ground, accepted, refused_on, slots};
+use templating::sizes;
 use words::{clear, clear_from};
 
 // A refusal, and outputs of zeros.
@@ -106,11 +107,16 @@ fn open_judged(text: &[u8], defs: &Definitions, pattern: &Pattern, outputs: &mut
     open_upto::<65536>(text, defs, pattern, outputs)
 }
 
-// Whether any lent lists are definitions and one pattern: 7, 1 or 3, if they are not.
+// Whether any lent lists are definitions and one pattern: 7, 1 or 3, if they are not. The definitions are judged first, and the pattern
+// only where they are definitions.
 fn check(text: &[u8], defs: &[u8], pattern: &[u8]) -> Result<(), Ground>
     ensures { refusal_number result ≡ check text.now defs.now pattern.now }
 {
-    templating::check(text, pattern, defs, definitions)
+    sizes(text.len(), defs.len(), pattern.len())?;
+    if !definitions(defs, text.len()) || !one_pattern(pattern, text.len()) {
+        return Err(Ground::MalformedList);
+    }
+    Ok(())
 }
 
 // Any lent lists, any text, any store, any output.
