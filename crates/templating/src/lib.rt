@@ -9,7 +9,7 @@ ghost use Rattle.forms.specs.Forms.{is_one, is_many};
 ghost use Rattle.templating.specs.Calls.{Ended, stopped, refusal, sizes, fault, making, substituting};
 
 use forms::judge::{idents, many_patterns, one_pattern};
-use records::{Ground, refused_on};
+use records::{Ground, refused};
 use templates::finish;
 use templates::making::make_template;
 use templates::substituting::substitute;
@@ -19,11 +19,19 @@ use words::clear;
 const MOST: usize = 65536;
 
 // A refusal, and an output of zeros.
-pub fn refuse(out: &mut [u8], reason: Ground) -> u64
-    ensures { Ended (stopped (number reason)) (length out.old) out.new result }
+// It is of any number, as it promised; refuse_on is for a ground.
+pub fn refuse(out: &mut [u8], code: u8) -> u64
+    ensures { Ended (stopped code) (length out.old) out.new result }
 {
     clear(out);
-    refused_on(reason, 0)
+    refused(code, 0)
+}
+
+// The same for one of the grounds.
+pub fn refuse_on(out: &mut [u8], reason: Ground) -> u64
+    ensures { Ended (stopped (number reason)) (length out.old) out.new result }
+{
+    refuse(out, reason as u8)
 }
 
 // A text and two record lists of these lengths in bytes: whether one is too long, or a list ends inside a record.
@@ -64,7 +72,7 @@ pub fn make(text: &[u8], pattern: &[u8], params: &[u8], out: &mut [u8]) -> u64
     ensures { Ended (making text.now pattern.now params.now out.old) (length out.old) out.new result }
 {
     if let Err(reason) = check(text, pattern, params, idents) {
-        return refuse(out, reason);
+        return refuse_on(out, reason);
     }
     let answer = make_template(text, pattern, params, out);
     finish(out, answer)
@@ -75,7 +83,7 @@ pub fn fill(text: &[u8], template: &[u8], patterns: &[u8], out: &mut [u8]) -> u6
     ensures { Ended (substituting text.now template.now patterns.now out.old) (length out.old) out.new result }
 {
     if let Err(reason) = check(text, template, patterns, many_patterns) {
-        return refuse(out, reason);
+        return refuse_on(out, reason);
     }
     let answer = substitute(template, patterns, out);
     finish(out, answer)

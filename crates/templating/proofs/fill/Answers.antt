@@ -6,7 +6,7 @@ use Rattle.templating.proofs.fill.Goals as goal
 
 pub returns-in-Err : goal.returns-in-Err
 unfolding substituting
-returns-in-Err c = refused_call _ _ _ _ c.in-Err.ensures _ _ _ _ (positive c.in-Err.reason) c.refuse.ensures
+returns-in-Err c = refused_call _ _ _ _ c.in-Err.ensures _ _ _ _ (positive c.in-Err.reason) c.refuse_on.ensures
 
 pub substitute-answer-requires : goal.substitute-answer-requires
 substitute-answer-requires c = ready_to_substitute _ _ _ c.in_default.ensures

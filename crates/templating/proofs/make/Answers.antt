@@ -6,7 +6,7 @@ use Rattle.templating.proofs.make.Goals as goal
 
 pub returns-in-Err : goal.returns-in-Err
 unfolding making
-returns-in-Err c = refused_call _ _ _ _ c.in-Err.ensures _ _ _ _ (positive c.in-Err.reason) c.refuse.ensures
+returns-in-Err c = refused_call _ _ _ _ c.in-Err.ensures _ _ _ _ (positive c.in-Err.reason) c.refuse_on.ensures
 
 pub make_template-answer-requires : goal.make_template-answer-requires
 make_template-answer-requires c = ready_to_make _ _ _ c.in_default.ensures
