@@ -1,19 +1,19 @@
 -- Appending records to an output with limited space. Assumes nothing.
 use Prim.Native.Nat.{ℕ, suc, ◌+◌, ◌-◌, ◌<◌, ◌≤◌, min}
 use native.Mathlib.Omega.{arith}
-use mathlib.Core.Path.{◌≡◌, refl, sym, ◌∙◌}
+use mathlib.Core.Path.{◌≡◌, refl, sym, ap, ◌∙◌}
 use mathlib.Core.List.{List, [], ◌∷◌, ◌++◌}
 use lib.ListN.{length, length-append, length-take, length-drop}
 use Rattle.std.specs.Prelude.{Result, Ok, Err}
 use Rattle.trees.specs.declared.Rec.{Rec}
 use Rattle.records.specs.Slots.{slots, rec_at, put, writes}
-use Rattle.records.proofs.Laws.{writes-append}
+use Rattle.records.proofs.Laws.{length-put, length-writes, writes-append}
 use Rattle.records.proofs.RecsLaws.{length-recs, recs-at}
 use Rattle.templates.specs.declared.Refused.{Refused}
 use Rattle.templates.specs.declared.Refused.TheVariants.{MacroArg, NoPattern, NoSpace}
 use Rattle.templates.specs.declared.output.Output.{Output}
 use Rattle.templates.specs.Answers.{space}
-use Rattle.templates.specs.Writing.{Empty, Appended, Wrote, all, full, Reaches, slice}
+use Rattle.templates.specs.Writing.{Empty, Appended, Wrote, all, full, SameLent, Reaches, slice}
 
 pub empty_at : (a : List ℕ) (o : Output) (n room : ℕ) → o.bytes.now ≡ a → o.written ≡ 0 → o.room ≡ room → n ≡ slots a → room ≡ min n 65536 → Empty a o
 unfolding space
@@ -70,6 +70,11 @@ module _ (a₀ a : Output) (whole left : List Rec) (inv : Reaches a₀ whole a l
   pub reaches_end : left ≡ [] → a.written ≤ a.room → Wrote a₀ whole a (Ok tt)
   reaches_end e h = inv.on a (Ok tt) (rw e (wrote_none a h))
 
+-- ---- what was lent
+
+pub same_put : (a b : Output) (r : Rec) → (b.room ≡ a.room) × (b.bytes.ghost_name ≡ a.bytes.ghost_name) → b.bytes.now ≡ put a.bytes.now a.written r → SameLent a b
+same_put a b r e f = record { same_reference = e.1; size = ap length f ∙ length-put a.bytes.now a.written r; room = e.0 }
+
 -- ---- the records from slot i up to slot j
 
 slice-none : (l : List ℕ) (i j : ℕ) → j ≤ i → slice l i j ≡ []
@@ -93,6 +98,14 @@ pub record Copying (a₀ : Output) (l : List ℕ) (from upto : ℕ) (a : Output)
   pub written : a.written ≡ a₀.written + (i - from)
   pub room : a.room ≡ a₀.room
   pub same_reference : a.bytes.ghost_name ≡ a₀.bytes.ghost_name
+
+pub same_copying : (a₀ a : Output) (l : List ℕ) (from upto i : ℕ) → Copying a₀ l from upto a i → SameLent a₀ a
+same_copying a₀ a l from upto i v =
+    record {
+      same_reference = v.same_reference;
+      size = sym (length-writes (slice l i upto) a.bytes.now a.written) ∙ sym (ap length v.wrote) ∙ length-writes (slice l from upto) a₀.bytes.now a₀.written;
+      room = v.room;
+    }
 
 module _ (a : Output) (l : List ℕ) (from upto : ℕ) (ordered : from ≤ upto) (inside : upto ≤ slots l) where
   pub no_copy : (b : Output) → a.room - a.written < upto - from → Wrote a (slice l from upto) b (Err NoSpace)

@@ -26,6 +26,12 @@ pub data Wrote (a : Output) (l : List Rec) (b : Output) : Result (Unit {0}) Refu
   all : Appended a l b → Wrote a l b (Ok tt)
   full : a.room < a.written + length l → Wrote a l b (Err NoSpace)
 
+-- the output b is in the bytes that a was lent, of the same length, with the same room
+pub record SameLent (a b : Output) : Type 0 where
+  pub same_reference : b.bytes.ghost_name ≡ a.bytes.ghost_name
+  pub size : length b.bytes.now ≡ length a.bytes.now
+  pub room : b.room ≡ a.room
+
 -- whatever appends what is left appends the whole
 pub record Reaches (a₀ : Output) (whole : List Rec) (a : Output) (left : List Rec) : Type 0 where
   pub on : (b : Output) (y : Result (Unit {0}) Refused) → Wrote a left b y → Wrote a₀ whole b y

@@ -1,7 +1,7 @@
 // Appending to an output.
 ghost use Rattle.std.specs.Prelude.{◌≡◌, [], ◌∷◌, ◌≤◌};
 ghost use Rattle.records.specs.Slots.{slots};
-ghost use Rattle.templates.specs.Writing.{Empty, Wrote, slice};
+ghost use Rattle.templates.specs.Writing.{Empty, Wrote, SameLent, slice};
 
 use crate::Refused;
 use crate::output::Output;
@@ -27,7 +27,8 @@ impl<'a> Output<'a> {
 
     // Appends r.
     pub fn append(&mut self, r: Rec) -> Result<(), Refused>
-        ensures { Wrote self.old (r ∷ []) self.new result }
+        ensures wrote { Wrote self.old (r ∷ []) self.new result }
+        ensures same { SameLent self.old self.new }
     {
         if self.room <= self.written {
             return Err(Refused::NoSpace);
@@ -41,7 +42,8 @@ impl<'a> Output<'a> {
     pub fn append_slice(&mut self, list: &[u8], from: usize, upto: usize) -> Result<(), Refused>
         requires ordered { from ≤ upto }
         requires inside { upto ≤ slots list.now }
-        ensures { Wrote self.old (slice list.now from upto) self.new result }
+        ensures wrote { Wrote self.old (slice list.now from upto) self.new result }
+        ensures same { SameLent self.old self.new }
     {
         if self.room - self.written < upto - from {
             return Err(Refused::NoSpace);

@@ -1,9 +1,9 @@
 // Pattern::make_macro_template and Pattern::subst_macro_args of ast.rs, as scans of record lists.
 #![tactic(auto)]
 
-mod appending;
+pub mod appending;
 pub mod making;
-mod output;
+pub mod output;
 pub mod scans;
 pub mod substituting;
 

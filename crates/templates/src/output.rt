@@ -4,8 +4,8 @@ ghost use Rattle.std.specs.Prelude.{◌≤◌};
 // Lent bytes, how many records were written into them, and for how many there is space.
 #[derive(Drop)]
 pub struct Output<'a> {
-    pub(crate) bytes: &'a mut [u8],
+    pub bytes: &'a mut [u8],
     pub written: usize,
-    pub(crate) room: usize,
-    pub(crate) ghost within: { written ≤ room },
+    pub room: usize,
+    pub ghost within: { written ≤ room },
 }
