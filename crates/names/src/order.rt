@@ -1,6 +1,6 @@
 // The first of a row of names that is the one sought, by an order of their numbers that is searched by halves. Nothing is proved of how the
 // order is made: it is tried with each name once, and that it leads each to the first of its kind is all that a search needs.
-ghost use Rattle.std.specs.Prelude.{◌≡◌, ◌+◌, ◌<◌, ◌≤◌, length, IfSome};
+ghost use Rattle.std.specs.Prelude.{◌≡◌, ◌+◌, ◌<◌, ◌≤◌, length, take, IfSome};
 ghost use Rattle.std.specs.Option.{ForSome};
 ghost use Rattle.trees.specs.Names.{spelled};
 ghost use Rattle.names.specs.Order.{First, SameNames, Checked};
@@ -112,9 +112,28 @@ fn put_in_order(names: &Names, places: &mut [u32], marks: &[u8]) -> usize
     m
 }
 
-// The order, if it leads each name to the first of its kind.
-fn tried<'a>(names: Names<'a>, places: &'a [u32], marks: &'a [u8]) -> Option<Order<'a>>
+// Puts the names of marked lengths in order: how many of the places hold it. None does where the names do not lead to the first of their kind.
+pub fn arrange(names: &Names, places: &mut [u32], marks: &[u8]) -> usize
+    requires few { names.now.n ≤ 65536 }
+    requires room { names.now.n ≤ length places.old }
+    ensures few { result ≤ names.now.n }
+    ensures leads_to_first { 0 < result → Checked names.now (take result places.new) marks.now names.now.n }
+{
+    let m = put_in_order(names, places, marks);
+    if m == 0 {
+        return 0;
+    }
+    let places = Places {
+        names: *names,
+        numbers: &places[..m],
+    };
+    if places.is_checked(marks) { m } else { 0 }
+}
+
+// The order that places hold, if they hold one.
+fn taken<'a>(names: Names<'a>, places: &'a [u32], marks: &'a [u8]) -> Option<Order<'a>>
     requires few { length places.now ≤ names.n }
+    requires leads_to_first { 0 < length places.now → Checked names places.now marks.now names.n }
     ensures same_names { IfSome result (λ o. o.places.names ≡ names.entry) }
     ensures same_marks { IfSome result (λ o. o.marks.now ≡ marks.now) }
 {
@@ -125,11 +144,7 @@ fn tried<'a>(names: Names<'a>, places: &'a [u32], marks: &'a [u8]) -> Option<Ord
         names,
         numbers: places,
     };
-    if places.is_checked(marks) {
-        Some(Order { places, marks })
-    } else {
-        None
-    }
+    Some(Order { places, marks })
 }
 
 // Puts the names of marked lengths in order. There is none where the names do not lead to the first of their kind.
@@ -139,8 +154,8 @@ pub fn prepare<'a>(names: Names<'a>, places: &'a mut [u32], marks: &'a [u8]) -> 
     ensures same_names { IfSome result (λ o. o.places.names ≡ names.entry) }
     ensures same_marks { IfSome result (λ o. o.marks.now ≡ marks.now) }
 {
-    let m = put_in_order(&names, places, marks);
-    tried(names, &places[..m], marks)
+    let m = arrange(&names, places, marks);
+    taken(names, &places[..m], marks)
 }
 
 // Names of the length of that at the range w are to be in the order.
