@@ -10,6 +10,7 @@ ghost use Rattle.steps.specs.Read.{read_by, Read, ReadAt, Passed, Begins, Went};
 ghost use Rattle.parser.specs.Types.{parse_struct_field, parse_tuple_field, parse_fields, parse_type_variant, parse_typevalue, parse_type};
 ghost use Rattle.parser.specs.Modified.{flags_of, TurnedTo, Modified, no_modifier};
 
+use reader::after;
 use records::Ground;
 use steps::parts::{Item, Part};
 use steps::{Parser, Stop};
@@ -296,8 +297,8 @@ fn no_modifier(p: &Parser) -> Result<(), Stop>
     if p.next_token().is_symbol() {
         return Err(Stop {
             why: Ground::TypeModifier,
-            place: p.pos_at(p.state.next + 1),
-            taken: p.state.next + 1,
+            place: p.second_token().pos,
+            taken: after(p.source.tokens, p.state.next),
         });
     }
     Ok(())
