@@ -21,7 +21,7 @@ impl Part for IfLet {
         let node = p.begin();
         parse_pattern(p, 64)?;
         parse_expr(p, 64)?;
-        p.close_at(node, Kind::IfLet, 0);
+        p.close_at(node, Kind::IfLet as u8, 0);
         Ok(())
     }
 }
@@ -35,9 +35,9 @@ impl Part for If {
     fn parse(p: &mut Parser) -> Result<(), Stop> {
         let node = p.begin();
         let wildcard = p.begin();
-        p.close_at(wildcard, Kind::PatternWildcard, 0);
+        p.close_at(wildcard, Kind::PatternWildcard as u8, 0);
         parse_expr(p, 64)?;
-        p.close_at(node, Kind::IfLet, 0);
+        p.close_at(node, Kind::IfLet as u8, 0);
         Ok(())
     }
 }

@@ -31,18 +31,18 @@ pub fn parse_expr(p: &mut Parser, depth: usize) -> Result<(), Stop>
         return parse_expr_inner_parens(p, depth - 1, t);
     }
     if t.is_const(p.source.text) {
-        return p.const_node_of(Kind::ExprConstPrim, t);
+        return p.const_node_of(Kind::ExprConstPrim as u8, t);
     }
     if t.is_word(p.source.text, b"true") {
-        p.leaf_of(Kind::ExprConstBool, 1, t);
+        p.leaf_of(Kind::ExprConstBool as u8, 1, t);
         return Ok(());
     }
     if t.is_word(p.source.text, b"false") {
-        p.leaf_of(Kind::ExprConstBool, 0, t);
+        p.leaf_of(Kind::ExprConstBool as u8, 0, t);
         return Ok(());
     }
     if t.is_symbol() {
-        return p.ident_node_of(Kind::ExprVar, t);
+        return p.ident_node_of(Kind::ExprVar as u8, t);
     }
     if t.is_int() {
         p.int_of(Kind::ExprConstInt, t);
@@ -67,7 +67,7 @@ fn parse_expr_inner_parens(p: &mut Parser, depth: usize, t: Token) -> Result<(),
     p.parse_ident()?;
     parse_exprs(p, depth)?;
     p.expect_rparen()?;
-    p.close_of(node, Kind::ExprTerm, 0, t);
+    p.close_of(node, Kind::ExprTerm as u8, 0, t);
     Ok(())
 }
 
@@ -82,7 +82,7 @@ fn parse_let_parens(p: &mut Parser, depth: usize, t: Token) -> Result<(), Stop>
     let node = p.begin();
     p.expect_lparen_of(t)?;
     parse_let(p, depth)?;
-    p.close_of(node, Kind::ExprLet, 0, t);
+    p.close_of(node, Kind::ExprLet as u8, 0, t);
     Ok(())
 }
 
@@ -114,7 +114,7 @@ fn parse_letdef(p: &mut Parser, depth: usize) -> Result<(), Stop>
     p.parse_ident()?;
     parse_expr(p, depth)?;
     p.expect_rparen()?;
-    p.close_at(node, Kind::LetDef, 0);
+    p.close_at(node, Kind::LetDef as u8, 0);
     Ok(())
 }
 

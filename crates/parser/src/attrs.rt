@@ -117,6 +117,6 @@ pub fn parse_attr(p: &mut Parser) -> Result<(), Stop>
     let rule = p.eat(b"rule");
     p.parse_ident()?;
     attr_kind_row(p)?;
-    p.close_at(node, Kind::Attr, u8::from(rule));
+    p.close_at(node, Kind::Attr as u8, u8::from(rule));
     Ok(())
 }

@@ -34,7 +34,7 @@ pub fn parse_decl(p: &mut Parser) -> Result<(), Stop>
     let node = p.begin();
     let flags = decl_modifiers(p);
     decl_names(p)?;
-    p.close_at(node, Kind::Decl, flags);
+    p.close_at(node, Kind::Decl as u8, flags);
     Ok(())
 }
 
@@ -61,7 +61,7 @@ fn extern_constructor(p: &mut Parser) -> Result<(), Stop>
     p.expect_word(b"constructor")?;
     p.parse_ident()?;
     p.parse_ident()?;
-    p.close_at(node, Kind::ExternConstructor, 0);
+    p.close_at(node, Kind::ExternConstructor as u8, 0);
     Ok(())
 }
 
@@ -76,7 +76,7 @@ fn extern_extractor(p: &mut Parser) -> Result<(), Stop>
     let infallible = p.eat(b"infallible");
     p.parse_ident()?;
     p.parse_ident()?;
-    p.close_at(node, Kind::ExternExtractor, u8::from(infallible));
+    p.close_at(node, Kind::ExternExtractor as u8, u8::from(infallible));
     Ok(())
 }
 
@@ -89,7 +89,7 @@ fn extern_const(p: &mut Parser) -> Result<(), Stop>
     let node = p.begin();
     p.parse_const()?;
     p.parse_ident()?;
-    p.close_at(node, Kind::ExternConst, 0);
+    p.close_at(node, Kind::ExternConst as u8, 0);
     Ok(())
 }
 
@@ -122,7 +122,7 @@ pub fn parse_etor(p: &mut Parser) -> Result<(), Stop>
     let node = p.begin();
     etor_head(p)?;
     parse_pattern(p, 64)?;
-    p.close_at(node, Kind::Extractor, 0);
+    p.close_at(node, Kind::Extractor as u8, 0);
     Ok(())
 }
 
@@ -148,7 +148,7 @@ pub fn parse_converter(p: &mut Parser) -> Result<(), Stop>
     p.parse_ident()?;
     p.parse_ident()?;
     p.parse_ident()?;
-    p.close_at(node, Kind::Converter, 0);
+    p.close_at(node, Kind::Converter as u8, 0);
     Ok(())
 }
 

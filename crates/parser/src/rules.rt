@@ -104,6 +104,6 @@ pub fn parse_rule(p: &mut Parser) -> Result<(), Stop>
     let place = p.next_pos();
     let node = p.begin();
     rule_parts(p, place)?;
-    p.close_at(node, Kind::Rule, flags);
+    p.close_at(node, Kind::Rule as u8, flags);
     Ok(())
 }

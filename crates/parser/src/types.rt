@@ -1,7 +1,6 @@
 // Types: parse_type, parse_typevalue, parse_type_variant, parse_fields and what they read.
 ghost use Rattle.std.specs.Prelude.{◌≡◌, ℕ, Bool, ◌+◌, ◌*◌, ◌≤◌, ◌<◌, IfOk};
 ghost use Rattle.trees.specs.Ast.{kind_variant, kind_fields_unit};
-ghost use Rattle.trees.specs.KindNumber.{kind_number};
 ghost use Rattle.tokens.specs.Token.{is_rparen};
 ghost use Rattle.tokens.specs.Input.{size, peek};
 ghost use Rattle.steps.specs.Outcome.{◌⊳◌, parent, bare, nothing, many_at, row, expect-lparen, expect-rparen, expect-word, parse_ident};
@@ -28,7 +27,7 @@ fn parse_struct_field(p: &mut Parser) -> Result<(), Stop>
     p.parse_ident()?;
     p.parse_ident()?;
     p.expect_rparen()?;
-    p.close_at(node, Kind::StructField, 0);
+    p.close_at(node, Kind::StructField as u8, 0);
     Ok(())
 }
 
@@ -83,9 +82,9 @@ impl Item for TupleField {
 }
 
 // The fields of a struct or a tuple, in a row up to a `)`.
-fn fields<I: Item>(p: &mut Parser, kind: Kind) -> Result<(), Stop>
+fn fields<I: Item>(p: &mut Parser, kind: u8) -> Result<(), Stop>
     requires { Begins 2 p.old }
-    ensures reads { Read (λ s. parent s (kind_number kind) 0 (many_at (size s) (I.stop s) (I.reader s) 0)) p.old p.new result }
+    ensures reads { Read (λ s. parent s kind 0 (many_at (size s) (I.stop s) (I.reader s) 0)) p.old p.new result }
     ensures within { IfOk result (λ _. Went 0 0 1 p.old p.new) }
 {
     let node = p.begin();
@@ -115,9 +114,9 @@ fn parse_fields(p: &mut Parser) -> Result<(), Stop>
         return Ok(());
     }
     if t.is_lparen() {
-        return fields::<StructField>(p, Kind::FieldsStruct);
+        return fields::<StructField>(p, Kind::FieldsStruct as u8);
     }
-    fields::<TupleField>(p, Kind::FieldsTuple)
+    fields::<TupleField>(p, Kind::FieldsTuple as u8)
 }
 
 // `(name fields)`
@@ -131,7 +130,7 @@ fn variant_parens(p: &mut Parser) -> Result<(), Stop>
     p.parse_ident()?;
     parse_fields(p)?;
     p.expect_rparen()?;
-    p.close_at(node, Kind::Variant, 0);
+    p.close_at(node, Kind::Variant as u8, 0);
     Ok(())
 }
 
@@ -143,7 +142,7 @@ fn variant_unit(p: &mut Parser) -> Result<(), Stop>
     let node = p.begin();
     p.parse_ident()?;
     unit_fields(p);
-    p.close_at(node, Kind::Variant, 0);
+    p.close_at(node, Kind::Variant as u8, 0);
     Ok(())
 }
 
@@ -207,10 +206,10 @@ impl Part for Struct {
 }
 
 // `(primitive name)`, `(enum variants)` or `(struct fields)`, by the second token u, which is the word w.
-fn value<P: Part>(p: &mut Parser, kind: Kind, w: &[u8], u: Token) -> Result<(), Stop>
+fn value<P: Part>(p: &mut Parser, kind: u8, w: &[u8], u: Token) -> Result<(), Stop>
     requires ready { Begins 4 p.old }
     requires second { u ≡ peek (read_by p.old) (p.old.state.next + 1) }
-    ensures reads { Read (λ s. parent s (kind_number kind) 0 (expect-lparen s ⊳ expect-word s w.now ⊳ P.reader s ⊳ expect-rparen s)) p.old p.new result }
+    ensures reads { Read (λ s. parent s kind 0 (expect-lparen s ⊳ expect-word s w.now ⊳ P.reader s ⊳ expect-rparen s)) p.old p.new result }
     ensures within { IfOk result (λ _. Went 1 0 0 p.old p.new) }
 {
     let node = p.begin();
@@ -226,13 +225,13 @@ fn parse_typevalue(p: &mut Parser) -> Result<(), Stop>
 {
     let u = p.second_token();
     if u.is_word(p.source.text, b"primitive") {
-        return value::<Primitive>(p, Kind::TypeValuePrimitive, b"primitive", u);
+        return value::<Primitive>(p, Kind::TypeValuePrimitive as u8, b"primitive", u);
     }
     if u.is_word(p.source.text, b"enum") {
-        return value::<Enum>(p, Kind::TypeValueEnum, b"enum", u);
+        return value::<Enum>(p, Kind::TypeValueEnum as u8, b"enum", u);
     }
     if u.is_word(p.source.text, b"struct") {
-        return value::<Struct>(p, Kind::TypeValueStruct, b"struct", u);
+        return value::<Struct>(p, Kind::TypeValueStruct as u8, b"struct", u);
     }
     p.refuse_after(TokenKind::LParen, Ground::TypeDefinition)
 }
@@ -315,6 +314,6 @@ pub fn parse_type(p: &mut Parser) -> Result<(), Stop>
     let flags = pass_modifiers(p);
     no_modifier(p)?;
     parse_typevalue(p)?;
-    p.close_at(node, Kind::TypeDef, flags);
+    p.close_at(node, Kind::TypeDef as u8, flags);
     Ok(())
 }

@@ -31,18 +31,18 @@ pub fn parse_pattern(p: &mut Parser, depth: usize) -> Result<(), Stop>
         return Ok(());
     }
     if t.is_const(p.source.text) {
-        return p.const_node_of(Kind::PatternConstPrim, t);
+        return p.const_node_of(Kind::PatternConstPrim as u8, t);
     }
     if t.is_word(p.source.text, b"_") {
-        p.leaf_of(Kind::PatternWildcard, 0, t);
+        p.leaf_of(Kind::PatternWildcard as u8, 0, t);
         return Ok(());
     }
     if t.is_word(p.source.text, b"true") {
-        p.leaf_of(Kind::PatternConstBool, 1, t);
+        p.leaf_of(Kind::PatternConstBool as u8, 1, t);
         return Ok(());
     }
     if t.is_word(p.source.text, b"false") {
-        p.leaf_of(Kind::PatternConstBool, 0, t);
+        p.leaf_of(Kind::PatternConstBool as u8, 0, t);
         return Ok(());
     }
     parse_compound(p, depth - 1, t)
@@ -60,7 +60,7 @@ fn parse_compound(p: &mut Parser, depth: usize, t: Token) -> Result<(), Stop>
         if p.second_kind() == Token::AT {
             return parse_bind(p, depth, t);
         }
-        return p.ident_node_of(Kind::PatternVar, t);
+        return p.ident_node_of(Kind::PatternVar as u8, t);
     }
     if t.is_lparen() {
         let u = p.second_token();
@@ -84,7 +84,7 @@ fn parse_bind(p: &mut Parser, depth: usize, t: Token) -> Result<(), Stop>
     p.parse_ident()?;
     p.expect_at()?;
     parse_pattern(p, depth)?;
-    p.close_of(node, Kind::PatternBind, 0, t);
+    p.close_of(node, Kind::PatternBind as u8, 0, t);
     Ok(())
 }
 
@@ -101,7 +101,7 @@ fn parse_and(p: &mut Parser, depth: usize, t: Token) -> Result<(), Stop>
     p.expect_word(b"and")?;
     parse_patterns(p, depth)?;
     p.expect_rparen()?;
-    p.close_of(node, Kind::PatternAnd, 0, t);
+    p.close_of(node, Kind::PatternAnd as u8, 0, t);
     Ok(())
 }
 
@@ -118,7 +118,7 @@ fn parse_term(p: &mut Parser, depth: usize, t: Token) -> Result<(), Stop>
     p.parse_ident()?;
     parse_patterns(p, depth)?;
     p.expect_rparen()?;
-    p.close_of(node, Kind::PatternTerm, 0, t);
+    p.close_of(node, Kind::PatternTerm as u8, 0, t);
     Ok(())
 }
 
