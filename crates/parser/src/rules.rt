@@ -22,7 +22,7 @@ fn rule_name(p: &mut Parser) -> Result<(), Stop>
         if p.second_token().is_refused() {
             return p.refuse_after(TokenKind::Symbol, Ground::RuleName);
         }
-        return p.parse_name_or(Ground::RuleName);
+        return p.parse_name_on(Ground::RuleName);
     }
     Ok(())
 }

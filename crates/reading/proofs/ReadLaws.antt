@@ -16,17 +16,19 @@ use Rattle.records.specs.Result.{accepted, refused}
 use Rattle.records.proofs.BackLaws.{writes-cleared}
 use Rattle.tokens.specs.Lent.{first_bad}
 use Rattle.tokens.specs.Input.{Input, size}
-use Rattle.std.specs.Prelude.{Result, Ok, Err}
+use Rattle.std.specs.Prelude.{Result, Ok, Err, MatchResult}
 use Rattle.std.specs.Result.{IfOk, IsErr, IsErrAnd}
 use Rattle.std.proofs.lemmas.Result.{err_from_is_err_and}
 use Rattle.records.specs.Grounds.{number as ground_number}
 use Rattle.steps.specs.declared.State.{State}
 use Rattle.steps.specs.declared.Stop.{Stop}
+use Rattle.steps.specs.declared.Refusal.{Refusal}
 use Rattle.steps.specs.Outcome.{Outcome, accept, refuse, refusal}
-use Rattle.steps.specs.Met.{told, state, number_of, Met, Chained, Ready, Within}
+use Rattle.steps.specs.Outcome as outcome
+use Rattle.steps.specs.Met.{told, told_as, state, number_of, Met, Chained, Ready, Within}
 use Rattle.parser.specs.Defs.{parse_defs}
 use Rattle.parser.specs.Reading.{done, stopped, fitted, judged, reading, number, bytes}
-use Rattle.reading.specs.Answered.{Answered, cleared, Finished, Countable}
+use Rattle.reading.specs.Answered.{Answered, cleared, Finished, FinishedAs, Countable, CountableAs}
 use Rattle.reading.specs.Checked.{unread, parse_good, parse_checked, Passed, Checked}
 
 pub stops : (code place r : ℕ) (l l' : List ℕ) → l' ≡ replicate (length l) 0 → r ≡ refused code place → Answered (stopped code place) (length l) l' r
@@ -56,6 +58,36 @@ finish_settled q r l l' t = record { returns = t.returns; output = t.output }
 pub countable_count : (q : State) → Countable (Ok q) → q.count < 16777216
 unfolding Countable
 countable_count q c = c
+
+-- where the refusal is told in document 01's number
+pub countable_as_count : (q : State) → CountableAs (Ok q) → q.count < 16777216
+unfolding CountableAs
+countable_as_count q c = countable_count q c
+
+pub finish_refused_as : (e : Refusal) (r : ℕ) (l l' : List ℕ) → Answered (stopped e.code e.place) (length l) l' r → FinishedAs (Err e) l l' r
+unfolding FinishedAs
+finish_refused_as e r l l' a = a
+
+pub finish_settled_as : (q : State) (r : ℕ) (l l' : List ℕ) → Finished (Ok (state 0 q.count 0)) l l' r → FinishedAs (Ok q) l l' r
+unfolding FinishedAs
+finish_settled_as q r l l' t = finish_settled q r l l' t
+
+-- x is p with its refusal told in document 01's number
+module _ (post : Stop → Refusal → Type 0) (k : (d : Stop) (e : Refusal) → post d e → told_as e ≡ told d) where
+  pub told_countable : (p : Result State Stop) (x : Result State Refusal) → MatchResult p (λ q. x ≡ Ok q) (λ d. IsErrAnd x (post d)) → Countable p → CountableAs x
+  unfolding CountableAs
+  told_countable (Ok q) x m c = rw m c
+  told_countable (Err d) (Ok q) m c = absurd m
+  told_countable (Err d) (Err e) m c = tt
+
+  pub told_finished : (p : Result State Stop) (x : Result State Refusal) (r : ℕ) (l l' : List ℕ) → MatchResult p (λ q. x ≡ Ok q) (λ d. IsErrAnd x (post d)) → FinishedAs x l l' r → Finished p l l' r
+  unfolding FinishedAs
+  told_finished (Ok q) x r l l' m t = rw m at t
+  told_finished (Err d) (Ok q) r l l' m t = absurd m
+  told_finished (Err d) (Err e) r l l' m t =
+      let a : e.code ≡ ground_number d.why = ap (λ (x : outcome.Refusal). x.code) (k d e m) in
+      let b : e.place ≡ d.place = ap (λ (x : outcome.Refusal). x.place) (k d e m) in
+      finish_refused d r l l' (rw (a, b) at t)
 
 -- ---- good tokens
 

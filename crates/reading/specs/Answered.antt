@@ -4,8 +4,9 @@ use Rattle.trees.specs.Choice.{pick}
 use Rattle.records.specs.Slots.{slots}
 use Rattle.steps.specs.declared.State.{State}
 use Rattle.steps.specs.declared.Stop.{Stop}
+use Rattle.steps.specs.declared.Refusal.{Refusal}
 use Rattle.steps.specs.Met.{number_of}
-use Rattle.parser.specs.Reading.{Reading, number, bytes}
+use Rattle.parser.specs.Reading.{Reading, stopped, number, bytes}
 
 -- the number r, and an output of n bytes that holds l
 pub record Answered (g : Reading) (n : ℕ) (l : List ℕ) (r : ℕ) : Type 0 where
@@ -22,7 +23,16 @@ pub record Finished (p : Result State Stop) (l l' : List ℕ) (r : ℕ) : Type 0
   pub returns : r ≡ number_of (slots l) p
   pub output : l' ≡ cleared p l
 
+-- the same where the refusal is told in document 01's number
+unfoldable pub FinishedAs : Result State Refusal → List ℕ → List ℕ → ℕ → Type 0
+FinishedAs (Ok q) l l' r = Finished (Ok q) l l' r
+FinishedAs (Err e) l l' r = Answered (stopped e.code e.place) (length l) l' r
+
 -- a count that the number has space for
 unfoldable pub Countable : Result State Stop → Type 0
 Countable (Ok q) = q.count < 16777216
 Countable (Err d) = Unit {0}
+
+unfoldable pub CountableAs : Result State Refusal → Type 0
+CountableAs (Ok q) = Countable (Ok q)
+CountableAs (Err e) = Unit {0}

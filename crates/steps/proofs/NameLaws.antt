@@ -31,7 +31,7 @@ use Rattle.tokens.specs.Ident.{ident_refusal}
 use Rattle.tokens.proofs.TokenLaws.{const_kind}
 use Rattle.steps.specs.declared.State.{State}
 use Rattle.steps.specs.declared.Stop.{Stop}
-use Rattle.steps.specs.Outcome.{accept, refuse, refusal, unexpected, refused_as, pragma_refusal, ident_at, const_refusal, name_by, parse_ident}
+use Rattle.steps.specs.Outcome.{Refusal, accept, refuse, refusal, unexpected, refused_as, pragma_refusal, ident_at, const_refusal, name_by, parse_ident}
 use Rattle.steps.specs.Met.{told, state, Met, Chained, SymbolAt, Named}
 
 -- ---- identifiers
@@ -175,6 +175,24 @@ module _ (pos n k i : ℕ) (l : List ℕ) where
   pub ident_refused : (g : Ground) (j : ℕ) → j ≡ i + 1 → (c w : ℕ) → Named c w (Err g) → Met (ident_at pos w c i) n k l l (Err (record { why = g; place = pos; taken = j }))
   unfolding Met ident_at Named
   ident_refused g j f c w h = rw (ne_eqb c 0 h.1, f) (ap (λ (x : ℕ). refusal x pos (i + 1)) h.0)
+
+-- a name that is refused for what is wrong with it, refused with another number
+module _ (code pos w i n k : ℕ) (b l l' : List ℕ) where
+  pub other_kept : (q : State) → Met (ident_at pos w (ident_refusal b) i) n k l l' (Ok q) → Met (ident_at pos w (refused_as code b) i) n k l l' (Ok q)
+  unfolding Met ident_at refused_as
+  other_kept q m = go (eqb (ident_refusal b) 0) m
+    where
+      go : (v : Bool) → Met (pick v (accept (ident_node pos w ▸ ∅) (i + 1)) (refuse (refusal (ident_refusal b) pos (i + 1)))) n k l l' (Ok q) → Met (pick (eqb (pick v 0 code) 0) (accept (ident_node pos w ▸ ∅) (i + 1)) (refuse (refusal (pick v 0 code) pos (i + 1)))) n k l l' (Ok q)
+      go true h = h
+      go false h = absurd h
+
+  pub other_refused : (d : Stop) → 0 < code → Met (ident_at pos w (ident_refusal b) i) n k l l' (Err d) → ident_at pos w (refused_as code b) i ≡ refuse (refusal code d.place d.taken)
+  unfolding Met ident_at refused_as
+  other_refused d z m = go (eqb (ident_refusal b) 0) m
+    where
+      go : (v : Bool) → Met (pick v (accept (ident_node pos w ▸ ∅) (i + 1)) (refuse (refusal (ident_refusal b) pos (i + 1)))) n k l l' (Err d) → pick (eqb (pick v 0 code) 0) (accept (ident_node pos w ▸ ∅) (i + 1)) (refuse (refusal (pick v 0 code) pos (i + 1))) ≡ refuse (refusal code d.place d.taken)
+      go true h = absurd h
+      go false h = rw (ne_eqb code 0 (λ y. omega arith), ap (λ (x : Refusal). x.place) h, ap (λ (x : Refusal). x.taken) h) refl
 
 -- ---- a symbol that is a name
 

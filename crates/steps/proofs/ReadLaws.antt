@@ -13,15 +13,17 @@ use Rattle.trees.specs.Tree.{head, ∅}
 use Rattle.trees.specs.declared.Head.{Head}
 use Rattle.tokens.specs.declared.Token.{Token}
 use Rattle.tokens.specs.Token.{is_symbol, is_at, is_word}
+use Rattle.tokens.specs.Ident.{ident_refusal}
 use Rattle.tokens.specs.Input.{Input, peek, pos_at, size}
 use Rattle.steps.specs.declared.Parser.{Parser}
 use Rattle.steps.specs.declared.Source.{Source}
 use Rattle.steps.specs.declared.State.{State}
 use Rattle.steps.specs.declared.Stop.{Stop}
-use Rattle.steps.specs.Outcome.{accept, refuse, Reader, ident_at, name_by, ◌⊳◌, parent, bare, leaf, nothing, flagged, if_next, if_second, expect_at, unexpected, ate, eat, many, many_at}
+use Rattle.steps.specs.declared.Refusal.{Refusal}
+use Rattle.steps.specs.Outcome.{accept, refuse, Reader, refused_as, ident_at, name_by, ◌⊳◌, parent, bare, leaf, nothing, flagged, if_next, if_second, expect_at, unexpected, ate, eat, many, many_at}
 use Rattle.steps.specs.Sizes.{Bounded}
-use Rattle.steps.specs.Met.{seen, told, state, Met, SymbolAt, Chained, Moved, Ready, Within}
-use Rattle.steps.specs.Read.{read_by, came_to, Same, Read, ReadAt, Begun, ClosedBy, LeafedBy, Begins, Went}
+use Rattle.steps.specs.Met.{seen, told, told_as, state, Met, SymbolAt, Chained, Moved, Ready, Within}
+use Rattle.steps.specs.Read.{read_by, came_to, Same, Read, ReadAt, ReadAs, Begun, ClosedBy, LeafedBy, Begins, Went}
 use Rattle.steps.proofs.MetLaws as met
 use Rattle.steps.proofs.SizeLaws.{less_bounded}
 use Rattle.steps.proofs.StepLaws as steps
@@ -244,6 +246,25 @@ module _ (judge : List ℕ → ℕ) (range : ℕ → ℕ) {p : Parser} where
   pub by_other : (d : Stop) (r : Result (Unit {0}) Stop) → IsErr r × IsErrAnd r (λ e. e ≡ d) → SymbolAt (read_by p) p.state (Err d) → Read (λ s. name_by s judge range) p p r
   unfolding name_by Met SymbolAt
   by_other d r h m = exit h (refused unmoved (record { met = rw m.1 m.0 }))
+
+-- an identifier, and its refusal told with another number
+module _ (code : ℕ) {p : Parser} where
+  pub name_as : {p' : Parser} {u : Unit {0}} (t : Token) → t ≡ peek (read_by p) p.state.next → is_symbol t ≡ true → Read (λ s. ident_at t.pos t.word1 (ident_refusal (spelled s.text t.word1))) p p' (Ok u) → ReadAs (λ s. name_by s (refused_as code) (λ w. w)) p p' (Ok u)
+  unfolding ReadAs came_to
+  name_as {p' = p'} {u = u} t a v m =
+      by_name (refused_as code) (λ w. w) t a v
+      (record {
+        read = record { met = names.other_kept code t.pos t.word1 p.state.next p.state.count p.state.items (spelled p.source.text.now t.word1) p.out.now p'.out.now p'.state m.read.met };
+        same = m.same;
+      })
+
+  pub name_refused_as : {p' : Parser} {d : Stop} (t : Token) → 0 < code → t ≡ peek (read_by p) p.state.next → is_symbol t ≡ true → Read (λ s. ident_at t.pos t.word1 (ident_refusal (spelled s.text t.word1))) p p' (Err d) → ReadAs (λ s. name_by s (refused_as code) (λ w. w)) p p' (Err (record { code = code; place = d.place; taken = d.taken }))
+  unfolding ReadAs came_to name_by
+  name_refused_as {p' = p'} {d = d} t z a v m = (rw (← a, v) (names.other_refused code t.pos t.word1 p.state.next p.state.count p.state.items (spelled p.source.text.now t.word1) p.out.now p'.out.now d z m.read.met), m.same)
+
+pub other_as : (code : ℕ) (p : Parser) (d : Stop) (r : Result (Unit {0}) Refusal) → IsErr r × IsErrAnd r (λ e. told_as e ≡ told d) → SymbolAt (read_by p) p.state (Err d) → ReadAs (λ s. name_by s (refused_as code) (λ w. w)) p p r
+unfolding ReadAs name_by SymbolAt
+other_as code p d r h m = let e = err_from_is_err_and r h.1 in rw e.1 (rw m.1 (ap refuse (sym (e.2 ∙ m.0))), unmoved)
 
 -- ---- the next token, further on
 

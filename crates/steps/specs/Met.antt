@@ -14,6 +14,7 @@ use Rattle.tokens.specs.Input.{Input, input, size, peek}
 use Rattle.steps.specs.declared.Source.{Source}
 use Rattle.steps.specs.declared.State.{State}
 use Rattle.steps.specs.declared.Stop.{Stop}
+use Rattle.steps.specs.declared.Refusal as struct
 use Rattle.steps.specs.Outcome.{Outcome, accept, refuse, Reader, Refusal, refusal, unexpected}
 
 -- what is read, as the definitions speak of it
@@ -23,6 +24,10 @@ seen s = input s.tokens.now s.text.now s.end
 -- why reading stopped, in document 01's number
 abbrev pub told : Stop → Refusal
 told d = refusal (number d.why) d.place d.taken
+
+-- the same of a refusal that has its number
+abbrev pub told_as : struct.Refusal → Refusal
+told_as e = refusal e.code e.place e.taken
 
 abbrev pub state : ℕ → ℕ → ℕ → State
 state next count items = record { next = next; count = count; items = items }

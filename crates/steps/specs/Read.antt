@@ -5,8 +5,9 @@ use Rattle.tokens.specs.Input.{Input}
 use Rattle.steps.specs.declared.Parser.{Parser}
 use Rattle.steps.specs.declared.State.{State}
 use Rattle.steps.specs.declared.Stop.{Stop}
-use Rattle.steps.specs.Outcome.{Reader}
-use Rattle.steps.specs.Met.{seen, Chained, Closed, Leafed, Ready, Within, inside}
+use Rattle.steps.specs.declared.Refusal.{Refusal}
+use Rattle.steps.specs.Outcome.{Reader, refuse}
+use Rattle.steps.specs.Met.{seen, told_as, Chained, Closed, Leafed, Ready, Within, inside}
 
 -- what a parser reads, as the definitions speak of it
 abbrev pub read_by : Parser → Input
@@ -26,6 +27,11 @@ pub record Same (p p' : Parser) : Type 0 where
 pub record Read (f : Input → Reader) (p p' : Parser) (r : Result (Unit {0}) Stop) : Type 0 where
   pub read : Chained (f (read_by p)) p.state p.out.now p'.out.now (came_to r p'.state)
   pub same : Same p p'
+
+-- the same where the refusal is told in document 01's number
+unfoldable pub ReadAs : (Input → Reader) → Parser → Parser → Result (Unit {0}) Refusal → Type 0
+ReadAs f p p' (Ok u) = Read f p p' (Ok u)
+ReadAs f p p' (Err e) = (f (read_by p) p.state.next ≡ refuse (told_as e)) × Same p p'
 
 abbrev pub Passed : (Input → Reader) → Parser → Parser → Type 0
 Passed f p p' = Read f p p' (Ok tt)

@@ -12,7 +12,7 @@ ghost use Rattle.tokens.specs.Input.{peek, pos_at, size};
 ghost use Rattle.tokens.specs.Kind.{kind_number};
 ghost use Rattle.records.specs.Grounds.{number};
 ghost use Rattle.steps.specs.Outcome.{refusal, unexpected, expect_at, expect-lparen, expect-rparen, expect-at, expect-word, refuse_at, refuse_after, ate, eat};
-ghost use Rattle.steps.specs.Met.{seen, told, state, inside};
+ghost use Rattle.steps.specs.Met.{seen, told, told_as, state, inside};
 ghost use Rattle.steps.specs.Read.{read_by, Read, Passed, Begun, Same, Went};
 
 use reader::{after, peek, peek_second};
@@ -61,6 +61,26 @@ impl Stop {
             why,
             place,
             taken: 0,
+        }
+    }
+}
+
+// The same in document 01's number, of any refusal.
+#[derive(Clone, Copy)]
+pub struct Refusal {
+    pub code: u8,
+    pub place: u32,
+    pub taken: usize,
+}
+
+impl From<Stop> for Refusal {
+    ghost from_gives = { λ d e. told_as e ≡ told d };
+
+    fn from(d: Stop) -> Refusal {
+        Refusal {
+            code: d.why as u8,
+            place: d.place,
+            taken: d.taken,
         }
     }
 }

@@ -5,9 +5,9 @@ ghost use Rattle.records.specs.Grounds.{number, code};
 ghost use Rattle.tokens.specs.Ident.{ident_refusal};
 ghost use Rattle.steps.specs.Outcome.{name_by, refused_as, pragma_refusal, const_refusal, ident_at, parse_ident, parse_const};
 ghost use Rattle.steps.specs.Met.{state, Near, SymbolAt, Named};
-ghost use Rattle.steps.specs.Read.{read_by, Read, Begins, Went};
+ghost use Rattle.steps.specs.Read.{read_by, Read, ReadAs, Begins, Went};
 
-use crate::{Parser, State, Stop, unexpected};
+use crate::{Parser, Refusal, State, Stop, unexpected};
 use reader::after;
 use records::Ground;
 use tally::emit_at;
@@ -144,8 +144,27 @@ impl Parser<'_> {
         self.put_const(t)
     }
 
-    // An identifier, refused for this reason where it is none.
-    pub fn parse_name_or(&mut self, why: Ground) -> Result<(), Stop>
+    // An identifier, refused with `code`, which is not 0, where it is none.
+    // Kept: of any number; its contract has landed and may not ask more. parse_name_on is for a ground.
+    pub fn parse_name_or(&mut self, code: u8) -> Result<(), Refusal>
+        requires ready { Begins 8 self.old }
+        requires code_nonzero { 0 < code }
+        ensures reads { ReadAs (λ s. name_by s (refused_as code) (λ w. w)) self.old self.new result }
+        ensures within { IfOk result (λ _. Went 1 2 0 self.old self.new) }
+    {
+        let t = self.symbol()?;
+        match self.put_name(t) {
+            Ok(()) => Ok(()),
+            Err(d) => Err(Refusal {
+                code,
+                place: d.place,
+                taken: d.taken,
+            }),
+        }
+    }
+
+    // The same for one of the grounds.
+    pub fn parse_name_on(&mut self, why: Ground) -> Result<(), Stop>
         requires { Begins 8 self.old }
         ensures reads { Read (λ s. name_by s (refused_as (number why)) (λ w. w)) self.old self.new result }
         ensures within { IfOk result (λ _. Went 1 2 0 self.old self.new) }

@@ -12,7 +12,7 @@ ghost use Rattle.texts.specs.Checked.{parse_checked, Checked};
 ghost use Rattle.texts.specs.TextReading.{first_high, foremost, looked_ahead, parse_text, text_reading};
 
 use lexer::gaps::run_end;
-use reading::finish;
+use reading::finish_on;
 use records::Ground;
 use steps::{Source, State, Stop};
 use tokens::lent::is_ascii;
@@ -138,5 +138,5 @@ pub fn read_text(text: &[u8], out: &mut [u8]) -> u64
     ensures { Answered (text_reading text.now (slots out.old)) (length out.old) out.new result }
 {
     let p = parse(text, out);
-    finish(out, p)
+    finish_on(out, p)
 }

@@ -12,7 +12,7 @@ returns-then-is_refused-clause-within c = bounded_went 0 0 0 name-bounded (retur
 
 pub returns-then-is_symbol-clause-reads : goal.returns-then-is_symbol-clause-reads
 unfolding rule_name
-returns-then-is_symbol-clause-reads c = next_yes _ _ c.next_token.ensures c.is_symbol.ensures c.if-is_symbol.true (second_no _ _ c.second_token.ensures c.is_refused.ensures c.if-is_refused.false c.parse_name_or.ensures.reads)
+returns-then-is_symbol-clause-reads c = next_yes _ _ c.next_token.ensures c.is_symbol.ensures c.if-is_symbol.true (second_no _ _ c.second_token.ensures c.is_refused.ensures c.if-is_refused.false c.parse_name_on.ensures.reads)
 
 pub returns-clause-reads : goal.returns-clause-reads
 unfolding rule_name
