@@ -113,7 +113,7 @@ fn put_in_order(names: &Names, places: &mut [u32], marks: &[u8]) -> usize
 }
 
 // Puts the names of marked lengths in order: how many of the places hold it. None does where the names do not lead to the first of their kind.
-pub fn arrange(names: &Names, places: &mut [u32], marks: &[u8]) -> usize
+pub fn prepare(names: &Names, places: &mut [u32], marks: &[u8]) -> usize
     requires few { names.now.n ≤ 65536 }
     requires room { names.now.n ≤ length places.old }
     ensures few { result ≤ names.now.n }
@@ -147,14 +147,14 @@ fn taken<'a>(names: Names<'a>, places: &'a [u32], marks: &'a [u8]) -> Option<Ord
     Some(Order { places, marks })
 }
 
-// Puts the names of marked lengths in order. There is none where the names do not lead to the first of their kind.
-pub fn prepare<'a>(names: Names<'a>, places: &'a mut [u32], marks: &'a [u8]) -> Option<Order<'a>>
+// The same as an order that holds the places, if there is one.
+pub fn prepared<'a>(names: Names<'a>, places: &'a mut [u32], marks: &'a [u8]) -> Option<Order<'a>>
     requires few { names.n ≤ 65536 }
     requires room { names.n ≤ length places.old }
     ensures same_names { IfSome result (λ o. o.places.names ≡ names.entry) }
     ensures same_marks { IfSome result (λ o. o.marks.now ≡ marks.now) }
 {
-    let m = arrange(&names, places, marks);
+    let m = prepare(&names, places, marks);
     taken(names, &places[..m], marks)
 }
 
