@@ -1,5 +1,5 @@
 // Appending to an output.
-ghost use Rattle.std.specs.Prelude.{◌≡◌, [], ◌∷◌, ◌≤◌};
+ghost use Rattle.std.specs.Prelude.{◌≡◌, [], ◌∷◌, ◌≤◌, IfErr};
 ghost use Rattle.records.specs.Slots.{slots};
 ghost use Rattle.templates.specs.Writing.{Empty, Wrote, SameLent, slice};
 
@@ -29,6 +29,7 @@ impl<'a> Output<'a> {
     pub fn append(&mut self, r: Rec) -> Result<(), Refused>
         ensures wrote { Wrote self.old (r ∷ []) self.new result }
         ensures same { SameLent self.old self.new }
+        ensures none_written { IfErr result (λ e. self.new.written ≡ self.old.written) }
     {
         if self.room <= self.written {
             return Err(Refused::NoSpace);
@@ -44,6 +45,7 @@ impl<'a> Output<'a> {
         requires inside { upto ≤ slots list.now }
         ensures wrote { Wrote self.old (slice list.now from upto) self.new result }
         ensures same { SameLent self.old self.new }
+        ensures none_written { IfErr result (λ e. self.new.written ≡ self.old.written) }
     {
         if self.room - self.written < upto - from {
             return Err(Refused::NoSpace);
